@@ -1,0 +1,34 @@
+-- The sizes of document 01, "Numbers and sizes", as the contracts cite them.
+use Prim.Native.Nat.{ℕ}
+
+-- "n: 1 to 4"
+abbrev pub nMax : ℕ
+nMax = 4
+
+-- "A polynomial equation has 0 to 16 terms"
+abbrev pub termsMax : ℕ
+termsMax = 16
+
+-- "Text: at most 2,048 bytes"
+abbrev pub textMax : ℕ
+textMax = 2048
+
+-- "Steps: 0 to 1,000"
+abbrev pub stepsMax : ℕ
+stepsMax = 1000
+
+-- "Job number: 0 to 999,999,999"
+abbrev pub numberMax : ℕ
+numberMax = 999999999
+
+-- "Box ends: -262,144 to 262,144 (4.0 either way)"
+abbrev pub endMax : ℕ
+endMax = 262144
+
+-- "Coefficients, matrix entries, right sides and entries of the inverse: -4,194,304 to 4,194,304 (64.0)"
+abbrev pub entryMax : ℕ
+entryMax = 4194304
+
+-- "each of total degree 0 to 3"
+abbrev pub degreeMax : ℕ
+degreeMax = 3

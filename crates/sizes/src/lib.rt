@@ -1,0 +1,19 @@
+// The sizes of document 01, "Numbers and sizes". Each stands here once for the code, and in specs/Sizes.antt once for the contracts:
+// where the two differ, the crates above are refused.
+
+// Unknowns, equations, rows and columns.
+pub const N: usize = 4;
+// Terms of an equation.
+pub const TERMS: usize = 16;
+// Bytes of a text.
+pub const TEXT: usize = 2048;
+// Steps of a run.
+pub const STEPS: u64 = 1000;
+// The largest job number.
+pub const NUMBER: u64 = 999999999;
+// A box end, either way.
+pub const END: i64 = 262144;
+// A coefficient, a matrix entry, a right side or an entry of the inverse, either way.
+pub const ENTRY: i64 = 4194304;
+// The total degree of a term.
+pub const DEGREE: u64 = 3;
