@@ -4,7 +4,7 @@ use mathlib.Core.Bool.{true, false}
 use Prim.Native.Nat.{ℕ, zero, suc, _/_, _%_, _≤_, _<_}
 use native.Mathlib.Nat.{div-add-mod, mod-lt}
 use lib.IntN.{ℤ, pos, negsuc, negℤ, natAbs, _+ℤ_, _-ℤ_}
-use lib.Signed.{_≤ℤ_, _<ℤ_, ltZ, quotZ, remZ, mag-rem}
+use lib.Signed.{_≤ℤ_, _<ℤ_, ltZ, quotZ, remZ, shrZ, mag-rem, mag-shr}
 use mir.Syntax.{Width}
 use mir.Val.{SFits}
 use mir.ValLaws.{sfits-le}
@@ -77,6 +77,15 @@ div-mono m k a b h = let r : pos (a / m) ≤ℤ pos (b / m) = floor-mono m k (po
 
 pub quot-within : {x : ℤ} {A : ℕ} (m : ℕ) → 0 < m → Within x A → Within (quotZ x (pos m)) (A / m)
 quot-within {x} {A} m k h = record { abs = rw quot-abs (div-mono m k (natAbs x) A (h .abs)) }
+
+-- the language's shift to the right rounds down
+pub shr-fits : {w : Width} {z : ℤ} (m : ℕ) → SFits w z → SFits w (shrZ z m)
+shr-fits {w} {z} m h = sfits-le (mag-shr z m) h
+
+pub shr-floor : (m : ℕ) (x : ℤ) → shrZ x m ≡ floorBy m x
+unfolding floorBy
+shr-floor m (pos a) = refl
+shr-floor m (negsuc a) = refl
 
 pub rem-fits : {w : Width} {z : ℤ} (m : ℕ) → SFits w z → SFits w (remZ z (pos m))
 rem-fits {w} {z} m h = sfits-le (mag-rem z (pos m)) h

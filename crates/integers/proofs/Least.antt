@@ -106,3 +106,7 @@ max4-within {a} {b} {c} {d} {B} p q r s = max-both (λ z. Within z B) (maxℤ a 
 
 pub min4-greatest : (M p q r s : ℤ) → M ≤ℤ p → M ≤ℤ q → M ≤ℤ r → M ≤ℤ s → M ≤ℤ min4 p q r s
 min4-greatest M p q r s h i j k = min-both (λ z. M ≤ℤ z) (minℤ p q) (minℤ r s) (min-both (λ z. M ≤ℤ z) p q h i) (min-both (λ z. M ≤ℤ z) r s j k)
+
+pub max4-least : {M p q r s : ℤ} → p ≤ℤ M → q ≤ℤ M → r ≤ℤ M → s ≤ℤ M → max4 p q r s ≤ℤ M
+max4-least {M} {p} {q} {r} {s} h i j k =
+    max-both (λ z. z ≤ℤ M) (maxℤ p q) (maxℤ r s) (max-both (λ z. z ≤ℤ M) p q h i) (max-both (λ z. z ≤ℤ M) r s j k)

@@ -15,5 +15,6 @@ pub mod Rounding
 pub mod RoundingGoals
 pub mod Division
 pub mod Machine
+pub mod Equal
 pub mod Sums
 pub mod SumGoals

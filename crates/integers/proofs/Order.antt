@@ -40,10 +40,13 @@ mul-mono-r {a} {b} {c} h k = le-by (ring (a ∷ b ∷ c ∷ []) (λ a b c. b ⊗
 pub mul-mono-l : {a b c : ℤ} → a ≤ℤ b → pos 0 ≤ℤ c → (c *ℤ a) ≤ℤ (c *ℤ b)
 mul-mono-l {a} {b} {c} h k = le-by (ring (a ∷ b ∷ c ∷ []) (λ a b c. c ⊗ b ⊖ c ⊗ a) (λ a b c. c ⊗ (b ⊖ a)) refl) (nonneg-mul k (diff-nonneg h))
 
+pub nonneg : {a : ℤ} → pos 0 <ℤ a → pos 0 ≤ℤ a
+nonneg h = omega zorder
+
 pub pos-mul : {a b : ℤ} → pos 0 <ℤ a → pos 0 <ℤ b → pos 0 <ℤ (a *ℤ b)
 pos-mul {a} {b} h k =
     let one : pos 1 ≤ℤ a = omega zorder in
-    let two : (pos 1 *ℤ b) ≤ℤ (a *ℤ b) = mul-mono-r {c = b} one (omega zorder) in
+    let two : (pos 1 *ℤ b) ≤ℤ (a *ℤ b) = mul-mono-r one (nonneg k) in
     omega (zorder, simp zlin at two)
 
 -- a factor that is not positive

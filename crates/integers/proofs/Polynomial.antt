@@ -52,29 +52,29 @@ module _ (ρ : List ℤ) (l r : Over (length ρ)) where
   abbrev pub right : Ex
   right = named (length ρ) 0 r
 
-  abbrev pub down : ℕ
-  down = less ρ (norm (right ⊖ left))
+  abbrev pub below : ℕ
+  below = less ρ (norm (right ⊖ left))
 
-  abbrev pub up : ℕ
-  up = plus ρ (norm (right ⊖ left))
+  abbrev pub above : ℕ
+  above = plus ρ (norm (right ⊖ left))
 
-  both : P (val ρ right -ℤ val ρ left) + down ≡ N (val ρ right -ℤ val ρ left) + up
+  both : P (val ρ right -ℤ val ρ left) + below ≡ N (val ρ right -ℤ val ρ left) + above
   both = rw (← norm-val ρ (right ⊖ left)) (split ρ (norm (right ⊖ left)))
 
-  pub given : val ρ left ≤ℤ val ρ right → down ≤ up
+  pub given : val ρ left ≤ℤ val ρ right → below ≤ above
   given h = omega (zorder, both, sub-pn (val ρ right) (val ρ left))
 
-  pub given< : val ρ left <ℤ val ρ right → down < up
+  pub given< : val ρ left <ℤ val ρ right → below < above
   given< h = omega (zorder, both, sub-pn (val ρ right) (val ρ left))
 
-  pub given≡ : val ρ left ≡ val ρ right → down ≡ up
+  pub given≡ : val ρ left ≡ val ρ right → below ≡ above
   given≡ h = omega (zorder, both, sub-pn (val ρ right) (val ρ left))
 
-  pub shown : down ≤ up → val ρ left ≤ℤ val ρ right
+  pub shown : below ≤ above → val ρ left ≤ℤ val ρ right
   shown h = omega (zorder, both, sub-pn (val ρ right) (val ρ left))
 
-  pub shown< : down < up → val ρ left <ℤ val ρ right
+  pub shown< : below < above → val ρ left <ℤ val ρ right
   shown< h = omega (zorder, both, sub-pn (val ρ right) (val ρ left))
 
-  pub shown≡ : down ≡ up → val ρ left ≡ val ρ right
+  pub shown≡ : below ≡ above → val ρ left ≡ val ρ right
   shown≡ h = omega (zorder, both, sub-pn (val ρ right) (val ρ left))

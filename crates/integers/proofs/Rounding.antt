@@ -77,6 +77,14 @@ module _ (m : ℕ) (h : 0 < m) where
   pub floor≤ceil : (x : ℤ) → floorBy m x ≤ℤ ceilBy m x
   floor≤ceil x = under (floorBy m x) (ceilBy m x) (simp zlin (omega (zorder, simp zlin at (floor-le x), simp zlin at (ceil-ge x))))
 
+  -- two numbers rounded by themselves, and their sum rounded once
+  pub floor-super : (x y : ℤ) → (floorBy m x +ℤ floorBy m y) ≤ℤ floorBy m (x +ℤ y)
+  floor-super x y =
+      floor-greatest (floorBy m x +ℤ floorBy m y) (x +ℤ y) (simp zlin (omega (zorder, simp zlin at (floor-le x), simp zlin at (floor-le y))))
+
+  pub ceil-sub : (x y : ℤ) → ceilBy m (x +ℤ y) ≤ℤ (ceilBy m x +ℤ ceilBy m y)
+  ceil-sub x y = ceil-least (ceilBy m x +ℤ ceilBy m y) (x +ℤ y) (simp zlin (omega (zorder, simp zlin at (ceil-ge x), simp zlin at (ceil-ge y))))
+
   -- a bound on x that is at most m times B gives B
   pub floor-within : {x : ℤ} {A : ℕ} (B : ℕ) → Within x A → A ≤ m * B → Within (floorBy m x) B
   floor-within {x} {A} B w l = within (floorBy m x) B low high

@@ -1,4 +1,5 @@
 pub mod Absolute
+pub mod Equal
 pub mod Least
 pub mod Rounding
 pub mod Sums

@@ -1,0 +1,3 @@
+pub mod Interval
+pub mod Ranges
+pub mod Fraction

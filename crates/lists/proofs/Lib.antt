@@ -1,0 +1,4 @@
+pub mod Tab
+pub mod Carry
+pub mod All
+pub mod Goals
