@@ -2,12 +2,12 @@
 use mathlib.Core.Path.{_≡_, refl, ap}
 use mathlib.Core.Bool.{Bool, true, false, cond}
 use Prim.Native.Nat.{ℕ}
-use lib.IntN.{ℤ}
+use lib.IntN.{ℤ, _*ℤ_}
 use lib.Signed.{_≤ℤ_, ltZ}
 use Rattle.integers.specs.Least.{minℤ, maxℤ, min4, max4}
 use Rattle.integers.specs.Ranges.{Within}
 use Rattle.integers.proofs.Parts.{zorder}
-use Rattle.integers.proofs.Order.{ltZ-true, ltZ-false}
+use Rattle.integers.proofs.Order.{ltZ-true, ltZ-false, above-l, above-r, below-l, below-r}
 
 pub min-l : (a b : ℤ) → minℤ a b ≤ℤ a
 unfolding minℤ
@@ -110,3 +110,15 @@ min4-greatest M p q r s h i j k = min-both (λ z. M ≤ℤ z) (minℤ p q) (min�
 pub max4-least : {M p q r s : ℤ} → p ≤ℤ M → q ≤ℤ M → r ≤ℤ M → s ≤ℤ M → max4 p q r s ≤ℤ M
 max4-least {M} {p} {q} {r} {s} h i j k =
     max-both (λ z. z ≤ℤ M) (maxℤ p q) (maxℤ r s) (max-both (λ z. z ≤ℤ M) p q h i) (max-both (λ z. z ≤ℤ M) r s j k)
+
+-- the product of two members is between the least and the greatest of the four
+module _ {a b c d s t : ℤ} (p : a ≤ℤ s) (q : s ≤ℤ b) (u : c ≤ℤ t) (w : t ≤ℤ d) where
+  pub min4-mul : min4 (a *ℤ c) (a *ℤ d) (b *ℤ c) (b *ℤ d) ≤ℤ (s *ℤ t)
+  min4-mul = above-l s u w
+      (above-r c p q (min4-1 (a *ℤ c) (a *ℤ d) (b *ℤ c) (b *ℤ d)) (min4-3 (a *ℤ c) (a *ℤ d) (b *ℤ c) (b *ℤ d)))
+      (above-r d p q (min4-2 (a *ℤ c) (a *ℤ d) (b *ℤ c) (b *ℤ d)) (min4-4 (a *ℤ c) (a *ℤ d) (b *ℤ c) (b *ℤ d)))
+
+  pub max4-mul : (s *ℤ t) ≤ℤ max4 (a *ℤ c) (a *ℤ d) (b *ℤ c) (b *ℤ d)
+  max4-mul = below-l s u w
+      (below-r c p q (max4-1 (a *ℤ c) (a *ℤ d) (b *ℤ c) (b *ℤ d)) (max4-3 (a *ℤ c) (a *ℤ d) (b *ℤ c) (b *ℤ d)))
+      (below-r d p q (max4-2 (a *ℤ c) (a *ℤ d) (b *ℤ c) (b *ℤ d)) (max4-4 (a *ℤ c) (a *ℤ d) (b *ℤ c) (b *ℤ d)))
