@@ -22,6 +22,10 @@ use Rattle.intervals.proofs.Rounding.{out-low, out-high}
 pub hold-point : (c : ℤ) → In c (pos 1) (pointI c)
 hold-point c = record { den = omega zorder; low = simp zlin (omega zorder); high = simp zlin (omega zorder) }
 
+-- a whole number of marks, over any denominator
+pub hold-const : (c : ℤ) {U : ℤ} → pos 0 <ℤ U → In (c *ℤ U) U (pointI c)
+hold-const c h = record { den = h; low = omega zorder; high = omega zorder }
+
 pub hold-zero : {U : ℤ} → pos 0 <ℤ U → In (pos 0) U zeroI
 hold-zero h = record { den = h; low = simp zlin (omega zorder); high = simp zlin (omega zorder) }
 

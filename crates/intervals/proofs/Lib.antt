@@ -6,3 +6,4 @@ pub mod Ranges
 pub mod Hold
 pub mod Inclusion
 pub mod Examples
+pub mod Places

@@ -14,7 +14,7 @@ use Rattle.integers.proofs.Linear.{zlin}
 use Rattle.integers.specs.Ranges.{Within}
 use Rattle.integers.proofs.Ranges.{fits, within-add, within-neg, within-mul, within-mid}
 use Rattle.integers.specs.Least.{minℤ, maxℤ, min4, max4}
-use Rattle.integers.proofs.Least.{min-l, min-r, min-both, max-l, max-r, max-both, min4-1, max4-1, min4-within, max4-within}
+use Rattle.integers.proofs.Least.{min-l, min-both, max-l, max-both, min4-1, max4-1, min4-within, max4-within}
 use Rattle.integers.proofs.Order.{mul-mono-l, leZ-true}
 use Rattle.integers.proofs.Rounding.{floor-mono, floor≤ceil, floor-within, ceil-within, mid-lo, mid-hi}
 use Rattle.lists.specs.Loops.{carry}

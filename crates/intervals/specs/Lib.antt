@@ -1,3 +1,4 @@
 pub mod Interval
 pub mod Ranges
 pub mod Fraction
+pub mod Places

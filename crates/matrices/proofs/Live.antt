@@ -1,0 +1,33 @@
+-- A scalar product looks at the live places alone: so a row of C may be handed to it as points.
+use mathlib.Core.Path.{_≡_, refl, ap, ap₂}
+use mathlib.Core.List.{List}
+use Prim.Native.Nat.{ℕ, _<_, _≤_}
+use lib.IntN.{ℤ}
+use Rattle.sizes.specs.Sizes.{nMax}
+use Rattle.lists.proofs.Tab.{tab-cong}
+use Rattle.intervals.specs.declared.Interval.{Interval}
+use Rattle.intervals.specs.Interval.{zeroI, pointI, addI, negI, wideI, outI}
+use Rattle.intervals.proofs.Places.{side-made}
+use Rattle.intervals.proofs.Sums.{sum-cong}
+use Rattle.intervals.specs.Places.{sideAt, vectorOf}
+use Rattle.matrices.specs.Products.{dotI, unitZ, entryB, dOf, bOf}
+
+module _ (n : ℕ) {a b c d : ℕ → Interval} (h : (k : ℕ) → k < n → a k ≡ c k) (g : (k : ℕ) → k < n → b k ≡ d k) where
+  pub dot-cong : dotI n a b ≡ dotI n c d
+  unfolding dotI
+  dot-cong = sum-cong n (λ k. wideI (a k) (b k)) (λ k. wideI (c k) (d k)) (λ k l. ap₂ wideI (h k l) (g k l))
+
+  pub entry-cong : (i j : ℕ) → entryB n a b i j ≡ entryB n c d i j
+  unfolding entryB
+  entry-cong i j = ap (λ (s : Interval). outI (addI (pointI (unitZ i j)) (negI s))) dot-cong
+
+-- the row i of C, as points
+module _ (n : ℕ) (room : n ≤ nMax) (C : ℕ → ℕ → ℤ) (i : ℕ) {row : List Interval} (e : row ≡ vectorOf n (λ k. pointI (C i k))) where
+  pub d-made : (F : ℕ → Interval) → outI (dotI n (sideAt row) F) ≡ dOf n C F i
+  unfolding dOf
+  d-made F = ap outI (dot-cong n (side-made n room (λ k. pointI (C i k)) e) (λ k _. refl))
+
+  pub b-made : (S : ℕ → ℕ → Interval) → vectorOf n (λ j. entryB n (sideAt row) (λ k. S k j) i j) ≡ vectorOf n (bOf n C S i)
+  unfolding bOf
+  b-made S = tab-cong zeroI nMax n (λ j. entryB n (sideAt row) (λ k. S k j) i j) (λ j. entryB n (λ k. pointI (C i k)) (λ k. S k j) i j)
+      (λ j _. entry-cong n (side-made n room (λ k. pointI (C i k)) e) (λ k _. refl) i j)
