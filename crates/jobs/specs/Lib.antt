@@ -1,1 +1,4 @@
 pub mod Words
+pub mod Ranges
+pub mod Terms
+pub mod Checks

@@ -1,0 +1,3 @@
+pub mod RangeLaws
+pub mod TermLaws
+pub mod CheckLaws

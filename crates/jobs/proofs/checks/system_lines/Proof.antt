@@ -1,0 +1,68 @@
+-- `checks::system_lines` meets its contract. The loop's invariant: no line passed is bad.
+use mathlib.Core.Path.{_≡_, sym, ap, _∙_}
+use Prim.Native.Nat.{_≤_, _+_, _-_}
+use native.Mathlib.Omega.{arith}
+use borrow.Author.Needs.{needs}
+use Rattle.jobs.specs.declared.Status.{Status}
+use Rattle.jobs.specs.Checks.{isBad, linesOf, systemLine, systemLines}
+use Rattle.jobs.proofs.CheckLaws.{not-bad, lines-none, lines-more, lines-done, lines-stop}
+use Rattle.jobs.proofs.checks.system_lines.Statement.{statement}
+use Rattle.jobs.proofs.checks.system_lines.Tie as tie
+
+abbrev Inv-loop : tie.InvT-loop
+Inv-loop line j n i₀ i = (i ≤ n) × (linesOf i (λ k. systemLine (j .kind) (line + k) j k) ≡ Status.Done)
+
+abbrev μ-loop : tie.MeasureT-loop
+μ-loop line j n i₀ i = n - i
+
+loop-holds : tie.Need-loop-holds Inv-loop μ-loop
+loop-holds c = (omega arith, lines-none _)
+
+add-system-line : tie.Need-add-system-line Inv-loop μ-loop
+add-system-line c = search needs
+
+system-line-requires : tie.Need-system-line-requires Inv-loop μ-loop
+system-line-requires c κs = search needs
+
+is-bad-requires : tie.Need-is-bad-requires Inv-loop μ-loop
+is-bad-requires c κs = search needs
+
+returns : tie.Need-returns Inv-loop μ-loop
+unfolding systemLines
+returns c =
+    c .before .before .system-line .ensures
+    ∙ sym (lines-stop _ _ _ (c .before .before .before .loop-test .taken) (c .before .before .before .before .loop .inv .1)
+    (ap isBad (sym (c .before .before .system-line .ensures)) ∙ sym (c .before .is-bad .ensures) ∙ c .if1 .taken))
+
+add-i : tie.Need-add-i Inv-loop μ-loop
+add-i c = search needs
+
+loop-less : tie.Need-loop-less Inv-loop μ-loop
+loop-less c = search needs
+
+loop-again : tie.Need-loop-again Inv-loop μ-loop
+loop-again c = (
+  omega arith,
+  lines-more _ _ (c .before .before .before .before .loop .inv .1)
+      (sym (c .before .before .system-line .ensures) ∙ not-bad _ (sym (c .before .is-bad .ensures) ∙ c .if1 .left)),
+)
+
+returns-2 : tie.Need-returns-2 Inv-loop μ-loop
+unfolding systemLines
+returns-2 c = sym (lines-done _ (c .before .loop .inv .0) (c .loop-test .left) (c .before .loop .inv .1))
+
+pub system-lines-spec : {M : Type 1} → statement M
+system-lines-spec =
+    tie.close
+    (tie.spec
+    Inv-loop
+    μ-loop
+    loop-holds
+    add-system-line
+    system-line-requires
+    is-bad-requires
+    returns
+    add-i
+    loop-less
+    loop-again
+    returns-2)

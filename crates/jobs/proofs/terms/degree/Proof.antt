@@ -1,0 +1,63 @@
+-- `terms::degree` meets its contract. The loop's invariant bounds the sum by 255 for each exponent passed, so that it fits.
+use mathlib.Core.Path.{_≡_}
+use Prim.Native.Nat.{_≤_, _+_, _*_, _-_}
+use native.Mathlib.Omega.{arith}
+use lib.ListN.{getD}
+use mir.Val.{Fits}
+use mir.Syntax.{w8}
+use borrow.Author.Needs.{needs}
+use Rattle.lists.specs.Loops.{carry}
+use Rattle.lists.proofs.Carry.{carry-none, carry-more, carry-done}
+use Rattle.jobs.specs.Terms.{degreeOf}
+use Rattle.jobs.proofs.terms.degree.Statement.{statement}
+use Rattle.jobs.proofs.terms.degree.Tie as tie
+
+abbrev Inv-loop : tie.InvT-loop
+Inv-loop n exps sum₀ k₀ sum k = (k ≤ n) × (sum ≤ 255 * k) × (sum ≡ carry k 0 (λ i d. d + getD exps i 0))
+
+abbrev μ-loop : tie.MeasureT-loop
+μ-loop n exps sum₀ k₀ sum k = n - k
+
+loop-holds : tie.Need-loop-holds Inv-loop μ-loop
+loop-holds c = (omega arith, omega arith, carry-none _ _)
+
+array-read-sum : tie.Need-array-read-sum Inv-loop μ-loop
+array-read-sum c = search needs
+
+cast-sum : tie.Need-cast-sum Inv-loop μ-loop
+cast-sum c = search needs
+
+add-sum : tie.Need-add-sum Inv-loop μ-loop
+add-sum c =
+    let b : Fits w8 (getD (c .before .before .before .args .t .exps) (c .before .loop .k) 0) = search needs in
+    omega arith
+
+add-k : tie.Need-add-k Inv-loop μ-loop
+add-k c = search needs
+
+loop-less : tie.Need-loop-less Inv-loop μ-loop
+loop-less c = search needs
+
+loop-again : tie.Need-loop-again Inv-loop μ-loop
+loop-again c =
+    let b : Fits w8 (getD (c .before .before .before .args .t .exps) (c .before .loop .k) 0) = search needs in
+    (omega arith, omega arith, carry-more _ _ _ (c .before .loop .inv .2))
+
+returns : tie.Need-returns Inv-loop μ-loop
+unfolding degreeOf
+returns c = carry-done _ _ (c .before .loop .inv .0) (c .loop-test .left) (c .before .loop .inv .2)
+
+pub degree-spec : {M : Type 1} → statement M
+degree-spec =
+    tie.close
+    (tie.spec
+    Inv-loop
+    μ-loop
+    loop-holds
+    array-read-sum
+    cast-sum
+    add-sum
+    add-k
+    loop-less
+    loop-again
+    returns)
