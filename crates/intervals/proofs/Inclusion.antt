@@ -65,15 +65,15 @@ max4-swap p q r s =
     let k = max4-least (max4-1 p q r s) (max4-3 p q r s) (max4-2 p q r s) (max4-4 p q r s) in
     omega zorder
 
-pub wide-comm : (A B : Interval) → wideI A B ≡ wideI B A
+pub wideI-comm : (A B : Interval) → wideI A B ≡ wideI B A
 unfolding wideI
-wide-comm A B =
+wideI-comm A B =
     rw (*ℤ-comm (B .lo) (A .lo), *ℤ-comm (B .lo) (A .hi), *ℤ-comm (B .hi) (A .lo), *ℤ-comm (B .hi) (A .hi))
     (ends (min4-swap _ _ _ _) (max4-swap _ _ _ _))
 
-pub mul-comm : (A B : Interval) → mulI A B ≡ mulI B A
+pub mulI-comm : (A B : Interval) → mulI A B ≡ mulI B A
 unfolding mulI
-mul-comm A B = rw (wide-comm A B)
+mulI-comm A B = rw (wideI-comm A B)
 
 module _ (A B C : Interval) where
   pub wide-over-sum : Inside (wideI A (addI B C)) (addI (wideI A B) (wideI A C))

@@ -38,6 +38,9 @@ done-first (Status.Refused f line) t e = e
 pub done-next : (s t : Status) → andThen s t ≡ Status.Done → t ≡ Status.Done
 done-next s t e = sym (good-first s t (done-first s t e)) ∙ e
 
+pub both-done : {s t : Status} → s ≡ Status.Done → t ≡ Status.Done → andThen s t ≡ Status.Done
+both-done {s} {t} h e = good-first s t h ∙ e
+
 pub unless-done : (good : Bool) (f : Fault) (line : ℕ) → refusedUnless good f line ≡ Status.Done → good ≡ true
 unfolding refusedUnless
 unless-done true f line e = refl

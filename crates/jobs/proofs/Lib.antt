@@ -1,3 +1,4 @@
 pub mod RangeLaws
 pub mod TermLaws
 pub mod CheckLaws
+pub mod AcceptedLaws

@@ -12,7 +12,8 @@ use borrow.Author.Tests.{lt-ltb, le-ltb, eqb-true, ne-eqb}
 use Rattle.lists.proofs.All.{all-each, all-stop}
 use Rattle.jobs.specs.declared.Term.{Term}
 use Rattle.jobs.specs.declared.Equation.{Equation}
-use Rattle.jobs.specs.Terms.{expOf, termAt, alike, falls, inOrder}
+use Rattle.jobs.specs.Places.{expOf, termAt}
+use Rattle.jobs.specs.Terms.{alike, falls, inOrder}
 use Rattle.jobs.proofs.RangeLaws.{each-all}
 
 or-right : (a : Bool) → a || true ≡ true

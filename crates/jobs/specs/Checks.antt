@@ -3,7 +3,7 @@
 -- Each kind of line has a definition, which is told its number.
 use Prim.Native.Nat.{ℕ, zero, suc, _+_}
 use mathlib.Core.Bool.{Bool, true, false, _&&_}
-use mathlib.Core.List.{List, []}
+use mathlib.Core.List.{List}
 use lib.Dec.{leb}
 use lib.ListN.{getD}
 use lib.IntN.{ℤ, pos}
@@ -15,6 +15,7 @@ use Rattle.jobs.specs.declared.Row.{Row}
 use Rattle.jobs.specs.declared.Job.{Job}
 use Rattle.jobs.specs.declared.Fault.{Fault}
 use Rattle.jobs.specs.declared.Status.{Status}
+use Rattle.jobs.specs.Places.{equationAt, rowAt}
 use Rattle.jobs.specs.Ranges.{isWithin, allWithin, allOrdered}
 use Rattle.jobs.specs.Terms.{goodCoefs, goodTerms}
 
@@ -35,13 +36,6 @@ isBad (Status.Refused f line) = true
 unfoldable pub linesOf : ℕ → (ℕ → Status) → Status
 linesOf zero f = Status.Done
 linesOf (suc n) f = andThen (linesOf n f) (f n)
-
--- the places of the values
-abbrev pub rowAt : List Row → ℕ → List ℤ
-rowAt rows i = getD rows i (record { at = [] }) .at
-
-abbrev pub equationAt : List Equation → ℕ → Equation
-equationAt eqs i = getD eqs i (record { count = 0; terms = [] })
 
 -- "n: 1 to 4"
 unfoldable pub goodUnknowns : ℕ → Bool

@@ -1,4 +1,6 @@
+pub mod Places
 pub mod Words
 pub mod Ranges
 pub mod Terms
 pub mod Checks
+pub mod Accepted

@@ -1,26 +1,18 @@
 -- What an equation's terms must be: document 01, "Numbers and sizes" and fault 6. Each test is over values and serves a text's reader too.
 use Prim.Native.Nat.{ℕ, zero, suc, _+_, min}
 use mathlib.Core.Bool.{Bool, true, false, not, _&&_, _||_}
-use mathlib.Core.List.{[]}
 use lib.Dec.{eqb, leb, ltb}
-use lib.ListN.{getD}
 use lib.IntN.{pos, natAbs}
 use Rattle.sizes.specs.Sizes.{termsMax, entryMax, degreeMax}
 use Rattle.lists.specs.Loops.{allB, carry}
 use Rattle.jobs.specs.declared.Term.{Term}
 use Rattle.jobs.specs.declared.Equation.{Equation}
+use Rattle.jobs.specs.Places.{expOf, termAt}
 use Rattle.jobs.specs.Ranges.{isWithin}
 
--- the exponent of unknown k, and the term at place k
-abbrev pub expOf : Term → ℕ → ℕ
-expOf t k = getD (t .exps) k 0
-
-abbrev pub termAt : Equation → ℕ → Term
-termAt q k = getD (q .terms) k (record { coef = pos 0; exps = [] })
-
--- "total degree"
-unfoldable pub degreeOf : Term → ℕ → ℕ
-degreeOf t n = carry n 0 (λ k d. d + expOf t k)
+-- "total degree"; an exponent over 9, which no digit spells, makes it too high
+unfoldable pub degree : ℕ → (ℕ → ℕ) → ℕ
+degree n e = carry n 0 (λ k d. d + e k)
 
 -- the same exponents of the first n unknowns
 unfoldable pub alike : Term → Term → ℕ → Bool
@@ -38,7 +30,7 @@ inOrder q n (suc k) = falls (termAt q k) (termAt q (suc k)) n
 
 -- "each of total degree 0 to 3, coefficient not zero"
 unfoldable pub goodTerm : Term → ℕ → Bool
-goodTerm t n = not (eqb (natAbs (t .coef)) 0) && leb (degreeOf t n) degreeMax
+goodTerm t n = not (eqb (natAbs (t .coef)) 0) && leb (degree n (expOf t)) degreeMax
 
 -- term k of an equation
 unfoldable pub goodPlace : Equation → ℕ → ℕ → Bool

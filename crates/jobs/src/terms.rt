@@ -8,12 +8,13 @@ use sizes::TERMS;
 ghost use mathlib.Core.Path.{_≡_};
 ghost use Prim.Native.Nat.{_≤_, _<_, min};
 ghost use Rattle.sizes.specs.Sizes.{nMax, termsMax};
-ghost use Rattle.jobs.specs.Terms.{degreeOf, falls, inOrder, goodTerm, goodPlace, goodTerms, goodCoefs};
+ghost use Rattle.jobs.specs.Places.{expOf};
+ghost use Rattle.jobs.specs.Terms.{degree, falls, inOrder, goodTerm, goodPlace, goodTerms, goodCoefs};
 
 // (A wider number than an exponent's holds the sum of any.)
-pub fn degree(t: Term, n: usize) -> u64
+pub fn degree_of(t: Term, n: usize) -> u64
     requires { ⌜ n ≤ nMax ⌝ }
-    ensures { λ r. ⌜ r ≡ degreeOf t n ⌝ }
+    ensures { λ r. ⌜ r ≡ degree n (expOf t) ⌝ }
 {
     let exps = t.exps;
     let mut sum: u64 = 0;
@@ -60,7 +61,7 @@ pub fn good_term(t: Term, n: usize) -> bool
     if t.coef == 0 {
         return false;
     }
-    degree(t, n) <= DEGREE
+    degree_of(t, n) <= DEGREE
 }
 
 fn good_place(q: Equation, n: usize, k: usize) -> bool

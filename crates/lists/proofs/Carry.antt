@@ -21,12 +21,6 @@ module _ {ℓ} {A : Type ℓ} (a : A) (f : ℕ → A → A) where
   pub carry-done : {i n : ℕ} {s : A} → i ≤ n → n ≤ i → s ≡ carry i a f → s ≡ carry n a f
   carry-done h k e = rw (← le-antisymm h k) e
 
-  -- what the start has and each turn keeps, the end has
-  pub carry-keeps {k} : (Q : A → Type k) (n : ℕ) → Q a → ((i : ℕ) (s : A) → i < n → Q s → Q (f i s)) → Q (carry n a f)
-  unfolding carry
-  carry-keeps Q zero q h = q
-  carry-keeps Q (suc n) q h = h n (carry n a f) (omega arith) (carry-keeps Q n q (λ i s l. h i s (omega arith)))
-
 -- only the changes below n count
 pub carry-cong {ℓ} : {A : Type ℓ} (n : ℕ) (a : A) (f g : ℕ → A → A) → ((i : ℕ) (s : A) → i < n → f i s ≡ g i s) → carry n a f ≡ carry n a g
 unfolding carry

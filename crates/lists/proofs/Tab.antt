@@ -1,6 +1,6 @@
 -- The laws of a list filled place by place, over its length m, the live places n, the filler d and the elements f.
 use mathlib.Core.Path.{_≡_, refl, ap, ap₂}
-use mathlib.Core.List.{List, [], _∷_}
+use mathlib.Core.List.{List, _∷_}
 use Prim.Native.Nat.{ℕ, zero, suc, _+_, _<_, _≤_, zero-le, suc-le-suc}
 use native.Mathlib.Nat.{not-suc-le-zero, le-of-suc-le-suc, le-antisymm, le-trans}
 use native.Mathlib.Numerals.{add-one}

@@ -1,4 +1,4 @@
--- Each scalar product holds the exact sum, whatever members are chosen: before its rounding over the product of the denominators, after it over 65,536 times that.
+-- Each scalar product holds the exact sum of products, whatever members are chosen; after its rounding the denominator is 65,536 times as large.
 use Prim.Native.Nat.{ℕ, _<_}
 use lib.IntN.{ℤ, pos, _-ℤ_, _*ℤ_}
 use lib.Signed.{_<ℤ_}

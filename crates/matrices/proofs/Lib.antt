@@ -1,3 +1,4 @@
+pub mod Examples
 pub mod Live
 pub mod Ranges
 pub mod Hold

@@ -13,12 +13,14 @@ use Rattle.intervals.specs.declared.Interval.{Interval}
 use Rattle.intervals.specs.Interval.{mark, pointI, negI, wideI}
 use Rattle.intervals.specs.Ranges.{FitsAdd, FitsNeg, FitsMul, InI}
 use Rattle.intervals.proofs.Ranges.{in-point, in-add, in-neg, in-wide, in-out, in-sum, fits-add, fits-neg, fits-mul}
-use Rattle.intervals.specs.Places.{sideAt, vectorOf}
+use Rattle.intervals.specs.Places.{sideAt, cellAt, vectorOf, matrixOf}
 use Rattle.matrices.specs.Products.{dotI, unitZ, entryB, dOf, bOf, eOf}
-use Rattle.matrices.specs.Ranges.{valueMax, slopeMax, zMax, dMax, bMax, eMax, DotIn, DIn, EntryIn, RowIn, BIn, EIn}
-use Rattle.intervals.proofs.Places.{side-made}
+use Rattle.sizes.specs.Bounds.{valueMax, slopeMax}
+use Rattle.matrices.specs.Ranges.{zMax, dMax, bMax, eMax, DotIn, DIn, EntryIn, RowIn, BIn, EIn}
+use Rattle.intervals.proofs.Places.{side-made, cell-made}
 
-pub in-dot : (n A B : ℕ) {a b : ℕ → Interval} → ((k : ℕ) → k < n → InI A (a k)) → ((k : ℕ) → k < n → InI B (b k)) → InI (n * (A * B)) (dotI n a b)
+pub in-dot : (n A B : ℕ) {a b : ℕ → Interval} → ((k : ℕ) → k < n → InI A (a k)) → ((k : ℕ) → k < n → InI B (b k))
+    → InI (n * (A * B)) (dotI n a b)
 unfolding dotI
 in-dot n A B {a} {b} h g = in-sum n (A * B) (λ k. wideI (a k) (b k)) (λ k l. in-wide (h k l) (g k l))
 
@@ -31,8 +33,8 @@ module _ {n : ℕ} {a b : ℕ → Interval} (h : DotIn n a b) where
   pub product-fits : (j : ℕ) → j < n → FitsMul (a j) (b j)
   product-fits j l = fits-mul (omega (arith, part j (h .left * h .right) l (h .sum))) (h .lefts j l) (h .rights j l)
 
-  pub sum-fits : (j : ℕ) {s v : Interval} → j < n → s ≡ dotI j a b → v ≡ wideI (a j) (b j) → FitsAdd s v
-  sum-fits j l e q = rw (e, q) (fits-add (part j (h .left * h .right) l (h .sum))
+  pub more-fits : (j : ℕ) {s v : Interval} → j < n → s ≡ dotI j a b → v ≡ wideI (a j) (b j) → FitsAdd s v
+  more-fits j l e q = rw (e, q) (fits-add (part j (h .left * h .right) l (h .sum))
       (in-dot j (h .left) (h .right) (λ k m. h .lefts k (omega arith)) (λ k m. h .rights k (omega arith)))
       (in-wide (h .lefts j l) (h .rights j l)))
 
@@ -97,6 +99,11 @@ module _ {n : ℕ} {C : ℕ → ℕ → ℤ} {S : ℕ → ℕ → Interval} (h :
   pub in-b : (j : ℕ) → j < n → InI bMax (bOf n C S i j)
   unfolding bOf
   in-b j m = in-entry (record { room = h .room; inverse = λ k u. in-point (h .inverse i k l u); slopes = λ k u. h .slopes k j u m }) i j
+
+-- B is within what E takes
+pub factors-in : {n : ℕ} {C : ℕ → ℕ → ℤ} {S : ℕ → ℕ → Interval} → BIn n C S → {b : List (List Interval)} → b ≡ matrixOf n (bOf n C S)
+    → (i k : ℕ) → i < n → k < n → InI bMax (cellAt b i k)
+factors-in {n} {C} {S} h e i k l m = rw (cell-made n (h .room) (bOf n C S) e i k l m) (in-b h i l k m)
 
 -- E
 module _ {n : ℕ} {B : ℕ → ℕ → Interval} {Z : ℕ → Interval} (h : EIn n B Z) (i : ℕ) (l : i < n) where

@@ -2,29 +2,24 @@
 use Prim.Native.Nat.{ℕ, _+_, _*_, _^_, _<_, _≤_}
 use lib.IntN.{ℤ}
 use Rattle.sizes.specs.Sizes.{nMax, entryMax, endMax}
+use Rattle.sizes.specs.Bounds.{valueMax, slopeMax}
 use Rattle.integers.specs.Ranges.{Within}
 use Rattle.intervals.specs.declared.Interval.{Interval}
+use Rattle.intervals.specs.Interval.{mark}
 use Rattle.intervals.specs.Ranges.{InI}
-
--- F: 16 terms, each within 2^28
-abbrev pub valueMax : ℕ
-valueMax = 16 * 2 ^ 28
-
--- S: 16 parts, each within 3 times 2^26
-abbrev pub slopeMax : ℕ
-slopeMax = 48 * 2 ^ 26
 
 -- Z: an end less a middle
 abbrev pub zMax : ℕ
 zMax = endMax + endMax
 
--- D, B and E, made of these
+-- D and B: an entry of C is at most 64.0
 abbrev pub dMax : ℕ
-dMax = nMax * 2 ^ 38
+dMax = nMax * (64 * valueMax)
 
 abbrev pub bMax : ℕ
-bMax = 2 ^ 16 + nMax * (48 * 2 ^ 32)
+bMax = mark + nMax * (64 * slopeMax)
 
+-- E: Z is at most 8.0
 abbrev pub eMax : ℕ
 eMax = nMax * (8 * bMax)
 

@@ -2,10 +2,10 @@
 use mathlib.Core.Path.{_≡_}
 use Prim.Native.Nat.{_≤_, _-_}
 use native.Mathlib.Omega.{arith}
-use Rattle.intervals.proofs.Sums.{sum-none, sum-more, sum-done}
+use Rattle.intervals.proofs.Sums.{sumI-none, sumI-more, sumI-done}
 use Rattle.intervals.specs.Places.{sideAt}
 use Rattle.matrices.specs.Products.{dotI}
-use Rattle.matrices.proofs.Ranges.{product-fits, sum-fits}
+use Rattle.matrices.proofs.Ranges.{product-fits, more-fits}
 use Rattle.matrices.proofs.dot.Statement.{statement}
 use Rattle.matrices.proofs.dot.Tie as tie
 
@@ -17,7 +17,7 @@ abbrev μ-loop : tie.MeasureT-loop
 
 loop-holds : tie.Need-loop-holds Inv-loop μ-loop
 unfolding dotI
-loop-holds c = (omega arith, sum-none _)
+loop-holds c = (omega arith, sumI-none _)
 
 mul-mul-wide : tie.Need-mul-mul-wide Inv-loop μ-loop
 mul-mul-wide c = omega arith
@@ -37,7 +37,7 @@ mul-wide-requires c κs = let t = c .before .before in product-fits (t .before .
 add-requires : tie.Need-add-requires Inv-loop μ-loop
 add-requires c κs =
     let t = c .before .before .before in
-    sum-fits (t .before .before .pre) (t .before .loop .k) (t .loop-test .taken) (t .before .loop .inv .1) (c .mul-wide .ensures)
+    more-fits (t .before .before .pre) (t .before .loop .k) (t .loop-test .taken) (t .before .loop .inv .1) (c .mul-wide .ensures)
 
 add-k : tie.Need-add-k Inv-loop μ-loop
 add-k c = omega arith
@@ -47,11 +47,11 @@ loop-less c = omega arith
 
 loop-again : tie.Need-loop-again Inv-loop μ-loop
 unfolding dotI
-loop-again c = (omega arith, sum-more _ _ (c .add .ensures) (c .before .before .before .before .before .loop .inv .1) (c .before .mul-wide .ensures))
+loop-again c = (omega arith, sumI-more _ _ (c .add .ensures) (c .before .before .before .before .before .loop .inv .1) (c .before .mul-wide .ensures))
 
 returns : tie.Need-returns Inv-loop μ-loop
 unfolding dotI
-returns c = sum-done _ (c .before .loop .inv .0) (c .loop-test .left) (c .before .loop .inv .1)
+returns c = sumI-done _ (c .before .loop .inv .0) (c .loop-test .left) (c .before .loop .inv .1)
 
 pub dot-spec : {M : Type 1} → statement M
 dot-spec =

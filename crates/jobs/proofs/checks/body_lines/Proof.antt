@@ -1,8 +1,14 @@
 -- `checks::body_lines` meets its contract: the answers of its calls, joined in order.
+use mathlib.Core.Path.{_≡_}
 use borrow.Author.Needs.{needs}
-use Rattle.jobs.specs.Checks.{bodyLines}
+use Rattle.jobs.specs.declared.Status.{Status}
+use Rattle.jobs.specs.Checks.{andThen, bodyLines}
 use Rattle.jobs.proofs.checks.body_lines.Statement.{statement}
 use Rattle.jobs.proofs.checks.body_lines.Tie as tie
+
+joined : (a b c d e : Status) {p q r s : Status} → p ≡ andThen d e → q ≡ andThen c p → r ≡ andThen b q → s ≡ andThen a r
+    → s ≡ andThen a (andThen b (andThen c (andThen d e)))
+joined a b c d e h k l m = rw (← h, ← k, ← l) m
 
 low-line-requires : tie.Need-low-line-requires
 low-line-requires c κs = search needs
@@ -46,9 +52,12 @@ and-then-requires-4 c κs = search needs
 returns : tie.Need-returns
 unfolding bodyLines
 returns c =
-    rw (← c .before .before .before .before .before .before .before .before .low-line .ensures, ← c .before .before .before .before .before .before .before .high-line .ensures)
-    (rw (← c .before .before .before .before .before .before .inverse-line .ensures, ← c .before .before .before .before .before .steps-line .ensures, ← c .before .before .before .before .system-lines .ensures)
-    (rw (← c .before .before .before .and-then .ensures, ← c .before .before .and-then2 .ensures, ← c .before .and-then3 .ensures) (c .and-then4 .ensures)))
+    let system = c .before .before .before .before in
+    let inverse = system .before .before in
+    rw (← inverse .before .before .low-line .ensures, ← inverse .before .high-line .ensures, ← inverse .inverse-line .ensures)
+    (rw (← system .before .steps-line .ensures, ← system .system-lines .ensures)
+    (joined _ _ _ _ _ (c .before .before .before .and-then .ensures) (c .before .before .and-then2 .ensures) (c .before .and-then3 .ensures)
+    (c .and-then4 .ensures)))
 
 pub body-lines-spec : {M : Type 1} → statement M
 body-lines-spec =

@@ -7,7 +7,8 @@ use borrow.Author.Tests.{not-true, not-false}
 use borrow.Author.Needs.{needs}
 use Rattle.lists.specs.Loops.{allB}
 use Rattle.lists.proofs.All.{all-more, all-stop, all-done}
-use Rattle.jobs.specs.Checks.{rowAt, goodEntries, goodMatrix}
+use Rattle.jobs.specs.Places.{rowAt}
+use Rattle.jobs.specs.Checks.{goodEntries, goodMatrix}
 use Rattle.jobs.proofs.checks.good_matrix.Statement.{statement}
 use Rattle.jobs.proofs.checks.good_matrix.Tie as tie
 

@@ -58,8 +58,9 @@ returns c = rw (c .before .before .enum-told .given .1) (c .equation-line .ensur
 returns-2 : tie.Need-returns-2
 unfolding systemLine
 returns-2 c =
-    let e : SFits w64 (getD (c .before .before .before .before .before .before .before .args .t2 .right) (c .before .before .before .before .before .before .before .args .i) (pos 0)) = search needs in
-    rw (c .before .before .before .before .before .enum-told2 .given .1, ← toZ-ofZ e) (c .sided-line .ensures)
+    let told = c .before .before .before .before .before in
+    let e : SFits w64 (getD (told .before .before .args .t2 .right) (told .before .before .args .i) (pos 0)) = search needs in
+    rw (told .enum-told2 .given .1, ← toZ-ofZ e) (c .sided-line .ensures)
 
 returns-3 : tie.Need-returns-3
 unfolding systemLine

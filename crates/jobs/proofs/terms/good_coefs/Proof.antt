@@ -13,7 +13,8 @@ use Rattle.sizes.specs.Sizes.{entryMax}
 use Rattle.lists.specs.Loops.{allB}
 use Rattle.lists.proofs.All.{all-more, all-stop, all-done}
 use Rattle.jobs.specs.Ranges.{isWithin}
-use Rattle.jobs.specs.Terms.{termAt, goodCoefs}
+use Rattle.jobs.specs.Places.{termAt}
+use Rattle.jobs.specs.Terms.{goodCoefs}
 use Rattle.jobs.proofs.terms.good_coefs.Statement.{statement}
 use Rattle.jobs.proofs.terms.good_coefs.Tie as tie
 
@@ -42,8 +43,11 @@ within-requires c κs = search needs
 returns : tie.Need-returns Inv-loop μ-loop
 unfolding goodCoefs
 returns c =
-    let e : SFits w64 (termAt (c .before .before .before .before .before .before .before .args .t1) (c .before .before .before .before .before .loop .k) .coef) = search needs in
-    rw (← c .before .before .before .before .before .before .placed .ensures) (sym (all-stop _ _ _ (c .before .before .before .before .loop-test .taken) (rw (toZ-ofZ e) at (sym (c .before .within .ensures) ∙ not-true _ (c .if1 .taken)))))
+    let turn = c .before .before .before .before .before in
+    let e : SFits w64 (termAt (turn .before .before .args .t1) (turn .loop .k) .coef) = search needs in
+    rw (← turn .before .placed .ensures)
+    (sym (all-stop _ _ _ (c .before .before .before .before .loop-test .taken)
+    (rw (toZ-ofZ e) at (sym (c .before .within .ensures) ∙ not-true _ (c .if1 .taken)))))
 
 add-k : tie.Need-add-k Inv-loop μ-loop
 add-k c = search needs
@@ -53,8 +57,9 @@ loop-less c = search needs
 
 loop-again : tie.Need-loop-again Inv-loop μ-loop
 loop-again c =
-    let e : SFits w64 (termAt (c .before .before .before .before .before .before .before .args .t1) (c .before .before .before .before .before .loop .k) .coef) = search needs in
-    (omega arith, all-more _ _ (c .before .before .before .before .before .loop .inv .1) (rw (toZ-ofZ e) at (sym (c .before .within .ensures) ∙ not-false _ (c .if1 .left))))
+    let turn = c .before .before .before .before .before in
+    let e : SFits w64 (termAt (turn .before .before .args .t1) (turn .loop .k) .coef) = search needs in
+    (omega arith, all-more _ _ (turn .loop .inv .1) (rw (toZ-ofZ e) at (sym (c .before .within .ensures) ∙ not-false _ (c .if1 .left))))
 
 returns-2 : tie.Need-returns-2 Inv-loop μ-loop
 unfolding goodCoefs

@@ -1,4 +1,4 @@
--- `terms::degree` meets its contract. The loop's invariant bounds the sum by 255 for each exponent passed, so that it fits.
+-- `terms::degree_of` meets its contract. The loop's invariant bounds the sum by 255 for each exponent passed, so that it fits.
 use mathlib.Core.Path.{_≡_}
 use Prim.Native.Nat.{_≤_, _+_, _*_, _-_}
 use native.Mathlib.Omega.{arith}
@@ -8,9 +8,9 @@ use mir.Syntax.{w8}
 use borrow.Author.Needs.{needs}
 use Rattle.lists.specs.Loops.{carry}
 use Rattle.lists.proofs.Carry.{carry-none, carry-more, carry-done}
-use Rattle.jobs.specs.Terms.{degreeOf}
-use Rattle.jobs.proofs.terms.degree.Statement.{statement}
-use Rattle.jobs.proofs.terms.degree.Tie as tie
+use Rattle.jobs.specs.Terms.{degree}
+use Rattle.jobs.proofs.terms.degree_of.Statement.{statement}
+use Rattle.jobs.proofs.terms.degree_of.Tie as tie
 
 abbrev Inv-loop : tie.InvT-loop
 Inv-loop n exps sum₀ k₀ sum k = (k ≤ n) × (sum ≤ 255 * k) × (sum ≡ carry k 0 (λ i d. d + getD exps i 0))
@@ -44,11 +44,11 @@ loop-again c =
     (omega arith, omega arith, carry-more _ _ _ (c .before .loop .inv .2))
 
 returns : tie.Need-returns Inv-loop μ-loop
-unfolding degreeOf
+unfolding degree
 returns c = carry-done _ _ (c .before .loop .inv .0) (c .loop-test .left) (c .before .loop .inv .2)
 
-pub degree-spec : {M : Type 1} → statement M
-degree-spec =
+pub degree-of-spec : {M : Type 1} → statement M
+degree-of-spec =
     tie.close
     (tie.spec
     Inv-loop

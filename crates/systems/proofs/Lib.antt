@@ -1,0 +1,14 @@
+pub mod Exponents
+pub mod Degrees
+pub mod Turns
+pub mod Places
+pub mod Ranges
+pub mod Factors
+pub mod Values
+pub mod Walk
+pub mod Slopes
+pub mod Interface
+pub mod Monomials
+pub mod Formulas
+pub mod Systems
+pub mod Examples

@@ -1,0 +1,32 @@
+-- F and S place by place, and that only the first n equations count.
+use mathlib.Core.Path.{_≡_, ap, _∙_}
+use mathlib.Core.List.{List, []}
+use Prim.Native.Nat.{ℕ, _<_, _≤_}
+use lib.ListN.{getD, replicate}
+use Rattle.sizes.specs.Sizes.{nMax}
+use Rattle.lists.proofs.Tab.{getD-tab, tab-cong}
+use Rattle.intervals.specs.declared.Interval.{Interval}
+use Rattle.intervals.specs.Interval.{zeroI}
+use Rattle.jobs.specs.declared.Equation.{Equation}
+use Rattle.intervals.specs.Places.{sideAt}
+use Rattle.systems.specs.Terms.{equationOver, slopeOver, valuesOver, slopeRow, slopesOver}
+
+module _ {n : ℕ} (room : n ≤ nMax) (q : ℕ → Equation) (X : ℕ → Interval) (i : ℕ) (l : i < n) where
+  pub values-at : sideAt (valuesOver n q X) i ≡ equationOver n (q i) X
+  unfolding valuesOver
+  values-at = getD-tab zeroI nMax n (λ i. equationOver n (q i) X) zeroI i l room
+
+  pub slopes-at : (j : ℕ) → j < n → sideAt (getD (slopesOver n q X) i []) j ≡ slopeOver n (q i) j X
+  unfolding slopesOver slopeRow
+  slopes-at j m =
+      ap (λ (r : List Interval). sideAt r j) (getD-tab (replicate nMax zeroI) nMax n (λ i. slopeRow n (q i) X) [] i l room)
+      ∙ getD-tab zeroI nMax n (λ j. slopeOver n (q i) j X) zeroI j m room
+
+module _ (n : ℕ) (q r : ℕ → Equation) (X : ℕ → Interval) (same : (i : ℕ) → i < n → q i ≡ r i) where
+  pub values-cong : valuesOver n q X ≡ valuesOver n r X
+  unfolding valuesOver
+  values-cong = tab-cong zeroI nMax n (λ i. equationOver n (q i) X) (λ i. equationOver n (r i) X) (λ i l. ap (λ e. equationOver n e X) (same i l))
+
+  pub slopes-cong : slopesOver n q X ≡ slopesOver n r X
+  unfolding slopesOver
+  slopes-cong = tab-cong (replicate nMax zeroI) nMax n (λ i. slopeRow n (q i) X) (λ i. slopeRow n (r i) X) (λ i l. ap (λ e. slopeRow n e X) (same i l))

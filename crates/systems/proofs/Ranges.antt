@@ -1,0 +1,131 @@
+-- How large terms, equations and slopes can be: with document 01's sizes no sum leaves 64 bits. The bounds do not depend on n.
+use mathlib.Core.Path.{_≡_, refl, ap}
+use mathlib.Core.List.{[]}
+use Prim.Native.Nat.{ℕ, zero, suc, _+_, _*_, _^_, _<_, _≤_}
+use native.Mathlib.Nat.{le-trans, le-refl, le-of-eq, not-suc-le-zero, mul-le-mul-right, pos-of-ne-zero}
+use native.Mathlib.Decide.{ℕ-discrete}
+use native.Mathlib.Numerals.{unary-clauses}
+use native.Mathlib.Omega.{arith}
+use lib.Dec.{lit<, lit≤}
+use lib.IntN.{ℤ}
+use lib.ListN.{getD}
+use Rattle.sizes.specs.Sizes.{termsMax, endMax, entryMax, degreeMax}
+use Rattle.lists.specs.Loops.{carry}
+use Rattle.intervals.specs.declared.Interval.{Interval}
+use Rattle.intervals.specs.Interval.{sumI}
+use Rattle.intervals.specs.Ranges.{InI, FitsAdd, FitsMul, FitsScale}
+use Rattle.intervals.proofs.Ranges.{in-zero, in-point, in-more, in-mul, in-scale, in-sum, fits-add, fits-mul, fits-scale}
+use Rattle.jobs.specs.declared.Equation.{Equation}
+use Rattle.intervals.specs.Places.{sideAt}
+use Rattle.systems.specs.Terms.{coefOf, expsOf, factorI, termOver, equationOver, lowered, termSlope, slopeOver, valuesOver, slopesOver}
+use Rattle.jobs.specs.Terms.{degree}
+use Rattle.systems.specs.Ranges.{BoxIn, TermIn, EquationIn, SystemIn, FactorIn, grow}
+use Rattle.sizes.specs.Bounds.{termMax, loweredMax, valueMax, partMax, slopeMax}
+use Rattle.systems.proofs.Turns.{term-next, slope-none, slope-some}
+use Rattle.systems.proofs.Places.{values-at, slopes-at}
+use Rattle.systems.proofs.Degrees.{degree-next, degree-mono, degree-lowered, exponent-degree}
+
+-- products one after another
+grow-add : (e d B : ℕ) → grow e (grow d B) ≡ grow (d + e) B
+unfolding grow
+grow-add zero d B = simp unary-clauses refl
+grow-add (suc e) d B = simp unary-clauses (ap (λ k. 4 * k) (grow-add e d B))
+
+grow-mono : (d e B : ℕ) → d ≤ e → grow d B ≤ grow e B
+unfolding grow
+grow-mono zero zero B l = le-refl B
+grow-mono zero (suc e) B l = let r = grow-mono zero e B (omega arith) in omega arith
+grow-mono (suc d) zero B l = absurd (not-suc-le-zero l)
+grow-mono (suc d) (suc e) B l = let r = grow-mono d e B (omega arith) in omega arith
+
+-- a coefficient multiplied at most 3 times
+cap : (d : ℕ) → d ≤ degreeMax → grow d entryMax ≤ termMax
+cap d l = le-trans (grow-mono d degreeMax entryMax l) (unfold grow in (lit≤ tt))
+
+-- and with one product less
+lowered-cap : (d : ℕ) → d + 1 ≤ degreeMax → grow d entryMax ≤ loweredMax
+lowered-cap d l = le-trans (grow-mono d 2 entryMax (omega arith)) (unfold grow in (lit≤ tt))
+
+pub in-factor : {A : ℕ} {a x : Interval} (e : ℕ) → InI A a → InI endMax x → InI (grow e A) (factorI e a x)
+unfolding factorI carry grow
+in-factor zero h k = h
+in-factor (suc e) h k = in-mul _ (omega arith) (in-factor e h k) k
+
+-- what each product of a factor asks
+pub factor-fits : {e : ℕ} {a x : Interval} → FactorIn e a x → (i : ℕ) → i ≤ e → FitsMul (factorI i a x) x
+factor-fits {e} p i l = fits-mul (omega (arith, grow-mono i e (p .size) l, p .room)) (in-factor i (p .start) (p .unknown)) (p .unknown)
+
+-- a lowered term is a term of document 01 too
+pub lowered-in : {n : ℕ} {c : ℤ} {e : ℕ → ℕ} (j : ℕ) → j < n → 0 < e j → TermIn n c e → TermIn n c (lowered j e)
+lowered-in {n} {e = e} j l s h = record { coef = h .coef; deg = omega (arith, degree-lowered e n j l s, h .deg) }
+
+-- a sum of at most 16 parts: its bound, and what each addition asks
+module _ {count B : ℕ} {f : ℕ → Interval} (few : count ≤ termsMax) (each : (t : ℕ) → t < count → InI B (f t)) where
+  in-total : (i : ℕ) → i ≤ count → InI (termsMax * B) (sumI i f)
+  in-total i l = in-more (mul-le-mul-right B (le-trans l few)) (in-sum i B f (λ t m. each t (omega arith)))
+
+  total-fits : termsMax * B + B < 2 ^ 63 → (i : ℕ) → i < count → FitsAdd (sumI i f) (f i)
+  total-fits small i l = fits-add small (in-total i (omega arith)) (each i l)
+
+module _ {n : ℕ} {X : ℕ → Interval} (box : BoxIn n X) where
+  module _ {c : ℤ} {e : ℕ → ℕ} (h : TermIn n c e) where
+    -- the term over the first k unknowns
+    in-first : (k : ℕ) → k ≤ n → InI (grow (degree k e) entryMax) (termOver k c e X)
+    unfolding degree carry grow
+    in-first zero l = unfold termOver carry in (in-point (h .coef))
+    in-first (suc k) l =
+        rw (term-next c e X k)
+        (in-more (le-of-eq (grow-add (e k) (degree k e) entryMax)) (in-factor (e k) (in-first k (omega arith)) (box .each k l)))
+
+    -- what the term asks at unknown k
+    pub term-factor : (k : ℕ) → k < n → FactorIn (e k) (termOver k c e X) (X k)
+    term-factor k l = record {
+      size = grow (degree k e) entryMax;
+      start = in-first k (omega arith);
+      unknown = box .each k l;
+      room = rw (grow-add, ← degree-next e k) (cap (degree (suc k) e) (le-trans (degree-mono e (suc k) n l) (h .deg)));
+    }
+
+    pub in-term : InI termMax (termOver n c e X)
+    in-term = in-more (cap (degree n e) (h .deg)) (in-first n (le-refl n))
+
+  module _ {c : ℤ} {e : ℕ → ℕ} (h : TermIn n c e) (j : ℕ) (l : j < n) where
+    in-lowered : 0 < e j → InI loweredMax (termOver n c (lowered j e) X)
+    in-lowered s =
+        let d = degree-lowered e n j l s in
+        in-more (lowered-cap (degree n (lowered j e)) (omega (arith, h .deg))) (in-first (lowered-in j l s h) n (le-refl n))
+
+    pub slope-fits : 0 < e j → FitsScale (e j) (termOver n c (lowered j e) X)
+    slope-fits s = fits-scale (e j) (omega (arith, exponent-degree e n j l, h .deg)) (in-lowered s)
+
+    pub in-part : InI partMax (termSlope n c e j X)
+    in-part = by (ℕ-discrete (e j) 0)
+      where
+        by : Dec (e j ≡ 0) → InI partMax (termSlope n c e j X)
+        by (yes p) = rw (slope-none c e X n j p) in-zero
+        by (no p) = rw (slope-some c e X n j p) (in-more (omega (arith, exponent-degree e n j l, h .deg)) (in-scale (e j) (in-lowered (pos-of-ne-zero p))))
+
+  module _ {q : Equation} (h : EquationIn n q) where
+    pub in-equation : InI valueMax (equationOver n q X)
+    unfolding equationOver
+    in-equation = in-total (h .count) (λ t m. in-term (h .each t m)) (q .count) (le-refl _)
+
+    -- what the sum asks at term t
+    pub equation-fits : (t : ℕ) → t < q .count → FitsAdd (sumI t (λ k. termOver n (coefOf q k) (expsOf q k) X)) (termOver n (coefOf q t) (expsOf q t) X)
+    equation-fits t l = total-fits (h .count) (λ k m. in-term (h .each k m)) (lit< tt) t l
+
+    module _ (j : ℕ) (l : j < n) where
+      pub in-slope : InI slopeMax (slopeOver n q j X)
+      unfolding slopeOver
+      in-slope = in-total (h .count) (λ t m. in-part (h .each t m) j l) (q .count) (le-refl _)
+
+      pub slope-sum-fits : (t : ℕ) → t < q .count → FitsAdd (sumI t (λ k. termSlope n (coefOf q k) (expsOf q k) j X)) (termSlope n (coefOf q t) (expsOf q t) j X)
+      slope-sum-fits t m = total-fits (h .count) (λ k m. in-part (h .each k m) j l) (lit< tt) t m
+
+  -- F and S, place by place
+  module _ {q : ℕ → Equation} (h : SystemIn n q) (i : ℕ) (l : i < n) where
+    pub in-values : InI valueMax (sideAt (valuesOver n q X) i)
+    in-values = rw (values-at (box .places) q X i l) (in-equation (h .each i l))
+
+    pub in-slopes : (j : ℕ) → j < n → InI slopeMax (sideAt (getD (slopesOver n q X) i []) j)
+    in-slopes j m = rw (slopes-at (box .places) q X i l j m) (in-slope (h .each i l) j m)

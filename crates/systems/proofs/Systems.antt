@@ -1,0 +1,85 @@
+-- The equations of a job: one case for each kind, and all of them in range.
+use mathlib.Core.Path.{_≡_, refl, ap, subst}
+use Prim.Native.Nat.{ℕ, _+_, _<_, _≤_}
+use native.Mathlib.Decide.{decLt}
+use native.Mathlib.Omega.{arith}
+use lib.IntN.{ℤ, pos}
+use Rattle.sizes.specs.Sizes.{nMax, entryMax}
+use Rattle.integers.specs.Ranges.{Within}
+use Rattle.integers.proofs.Ranges.{within-neg, within-lit}
+use Rattle.lists.proofs.Tab.{getD-tab}
+use Rattle.intervals.specs.declared.Interval.{Interval}
+use Rattle.intervals.specs.Interval.{mark}
+use Rattle.jobs.specs.declared.Kind.{Kind}
+use Rattle.jobs.specs.declared.Job.{Job}
+use Rattle.jobs.specs.Places.{noEquation, equationAt}
+use Rattle.systems.specs.Terms.{valuesOver, slopesOver, coefOf}
+use Rattle.systems.specs.Kinds.{unitE, eigenE, rowCoef, zeroEquation, build, linearEquation, eigenEquation, rowOf, pinned, equationBy, equationOf, equationsOf}
+use Rattle.intervals.specs.Places.{numberAt}
+use Rattle.systems.specs.Ranges.{EquationIn, SystemIn, EntriesIn, PartsIn, JobIn}
+use Rattle.systems.proofs.Places.{values-cong, slopes-cong}
+use Rattle.systems.specs.Fractions.{DegreesIn}
+use Rattle.systems.proofs.Exponents.{row-entry, row-last}
+use Rattle.systems.proofs.Formulas.{built-coef, linear-exact, eigen-exact}
+
+module _ (j : Job) {k : Kind} (e : j .kind ≡ k) where
+  pub equation-by : (i : ℕ) → equationOf j i ≡ equationBy k j i
+  unfolding equationOf
+  equation-by i = ap (λ k. equationBy k j i) e
+
+  pub parts-by : JobIn j → PartsIn k j
+  parts-by h = subst (λ k. PartsIn k j) e (h .parts)
+
+-- a row's coefficients are its entries and minus its right side; the degrees are known from the formulas
+built-in : {n : ℕ} {a : ℕ → ℤ} {b : ℤ} (e : ℕ → ℕ → ℕ) → EntriesIn n a → Within b entryMax
+    → DegreesIn n (build n (rowCoef n a b) e) → EquationIn n (build n (rowCoef n a b) e)
+built-in {n} {a} {b} e row right degrees = record {
+  count = omega (arith, row .places);
+  each = λ t l. record { coef = coef t l; deg = degrees .each t l };
+}
+  where
+    coefs : (t : ℕ) → Within (rowCoef n a b t) entryMax
+    coefs t = by (decLt t n)
+      where
+        by : Dec (t < n) → Within (rowCoef n a b t) entryMax
+        by (yes l) = rw (row-entry n a b t l) (row .each t l)
+        by (no l) = rw (row-last n a b t (omega arith)) (within-neg right)
+
+    coef : (t : ℕ) → t < n + 1 → Within (coefOf (build n (rowCoef n a b) e) t) entryMax
+    coef t l = rw (built-coef n (row .places) a b e t l) (coefs t)
+
+-- an accepted job's equations are in range
+pub system-in : {j : Job} → JobIn j → SystemIn (j .n) (equationOf j)
+system-in {j} h = record { each = λ i l. by (j .kind) refl i l }
+  where
+    by : (k : Kind) → j .kind ≡ k → (i : ℕ) → i < j .n → EquationIn (j .n) (equationOf j i)
+    by Kind.Poly e i l = rw (equation-by j e i) (parts-by j e h .each i l)
+    by Kind.Linear e i l = rw (equation-by j e i) (linear (parts-by j e h))
+      where
+        linear : PartsIn Kind.Linear j → EquationIn (j .n) (equationBy Kind.Linear j i)
+        linear p =
+            let d = linear-exact (j .n) (h .places) (rowOf j i) (numberAt (j .right) i) in
+            unfold linearEquation in (built-in unitE (p .0 i l) (p .1 .each i l) (record { each = λ t u. omega (arith, d .deg t u) }))
+    by Kind.Eigen e i l = rw (equation-by j e i) (eigen (parts-by j e h))
+      where
+        eigen : PartsIn Kind.Eigen j → EquationIn (j .n) (equationBy Kind.Eigen j i)
+        eigen p =
+            let some = h .some in
+            let d = eigen-exact (j .n) (pinned j) (h .places) (omega arith) (rowOf j i) i l in
+            unfold eigenEquation in
+            (built-in (eigenE (j .n) (pinned j) i) (p i l) (within-lit (pos mark) entryMax tt) (record { each = λ t u. omega (arith, d .deg t u) }))
+
+-- what `equations` returns, read by its places
+pub equations-at : (j : Job) → j .n ≤ nMax → (i : ℕ) → i < j .n → equationAt (equationsOf j) i ≡ equationOf j i
+equations-at j room i l = getD-tab zeroEquation nMax (j .n) (equationOf j) noEquation i l room
+
+pub equations-in : {j : Job} → JobIn j → SystemIn (j .n) (equationAt (equationsOf j))
+equations-in {j} h = record { each = λ i l. rw (equations-at j (h .places) i l) (system-in h .each i l) }
+
+-- F and S of what `equations` returns are those of the job's equations
+module _ (j : Job) (room : j .n ≤ nMax) (X : ℕ → Interval) where
+  pub equations-values : valuesOver (j .n) (equationAt (equationsOf j)) X ≡ valuesOver (j .n) (equationOf j) X
+  equations-values = values-cong (j .n) (equationAt (equationsOf j)) (equationOf j) X (equations-at j room)
+
+  pub equations-slopes : slopesOver (j .n) (equationAt (equationsOf j)) X ≡ slopesOver (j .n) (equationOf j) X
+  equations-slopes = slopes-cong (j .n) (equationAt (equationsOf j)) (equationOf j) X (equations-at j room)

@@ -1,0 +1,62 @@
+-- Document 01, "The arithmetic": terms, equations and slopes over a box of n unknowns. A box is read by its places: X k is the interval of
+-- unknown k. So are a term's exponents: e k is the exponent of unknown k. Unknown 1 of document 01 stands at place 0.
+use mathlib.Core.Bool.{cond}
+use mathlib.Core.List.{List}
+use Prim.Native.Nat.{ℕ, _-_}
+use lib.Dec.{eqb}
+use lib.IntN.{ℤ}
+use lib.ListN.{set, replicate}
+use Rattle.sizes.specs.Sizes.{nMax}
+use Rattle.lists.specs.Loops.{tab, carry}
+use Rattle.intervals.specs.declared.Interval.{Interval}
+use Rattle.intervals.specs.Interval.{zeroI, pointI, scaleI, mulI, sumI}
+use Rattle.intervals.specs.Places.{vectorOf}
+use Rattle.jobs.specs.Places.{expOf, termAt}
+use Rattle.jobs.specs.declared.Term.{Term}
+use Rattle.jobs.specs.declared.Equation.{Equation}
+
+-- the coefficient and the exponents of term t of an equation
+abbrev pub coefOf : Equation → ℕ → ℤ
+coefOf q t = termAt q t .coef
+
+abbrev pub expsOf : Equation → ℕ → ℕ → ℕ
+expsOf q t = expOf (termAt q t)
+
+-- "multiply by unknown 1 as often as its exponent says", "rounding after each product"; "A square is a plain product here."
+unfoldable pub factorI : ℕ → Interval → Interval → Interval
+factorI e a x = carry e a (λ i p. mulI p x)
+
+-- "Term over a box: begin with [c, c], multiply by unknown 1 .., then unknown 2 and so on"
+unfoldable pub termOver : ℕ → ℤ → (ℕ → ℕ) → (ℕ → Interval) → Interval
+termOver n c e X = carry n (pointI c) (λ k a. factorI (e k) a (X k))
+
+-- "Equation over a box: the sum of its terms."
+unfoldable pub equationOver : ℕ → Equation → (ℕ → Interval) → Interval
+equationOver n q X = sumI (q .count) (λ t. termOver n (coefOf q t) (expsOf q t) X)
+
+-- "with that exponent lowered by one"
+unfoldable pub lowered : ℕ → (ℕ → ℕ) → ℕ → ℕ
+lowered j e k = cond (eqb k j) (e k - 1) (e k)
+
+-- "over the terms with exponent e of at least 1, the term with that exponent lowered by one, its ends multiplied by e"
+unfoldable pub termSlope : ℕ → ℤ → (ℕ → ℕ) → ℕ → (ℕ → Interval) → Interval
+termSlope n c e j X = cond (eqb (e j) 0) zeroI (scaleI (e j) (termOver n c (lowered j e) X))
+
+-- "Slope of an equation in unknown j: .. all summed"
+unfoldable pub slopeOver : ℕ → Equation → ℕ → (ℕ → Interval) → Interval
+slopeOver n q j X = sumI (q .count) (λ t. termSlope n (coefOf q t) (expsOf q t) j X)
+
+-- "F: the equations over the box"; "places past n play no part"
+unfoldable pub valuesOver : ℕ → (ℕ → Equation) → (ℕ → Interval) → List Interval
+valuesOver n q X = vectorOf n (λ i. equationOver n (q i) X)
+
+-- "S: the matrix of slopes", an array of rows, one row for each equation
+unfoldable pub slopeRow : ℕ → Equation → (ℕ → Interval) → List Interval
+slopeRow n q X = vectorOf n (λ j. slopeOver n q j X)
+
+unfoldable pub slopesOver : ℕ → (ℕ → Equation) → (ℕ → Interval) → List (List Interval)
+slopesOver n q X = tab nMax n (replicate nMax zeroI) (λ i. slopeRow n (q i) X)
+
+-- the code's term with the exponent of unknown j lowered
+abbrev pub lowerTerm : ℕ → Term → Term
+lowerTerm j t = record { coef = t .coef; exps = set (t .exps) j (expOf t j - 1) }
