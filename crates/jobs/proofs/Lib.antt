@@ -2,3 +2,4 @@ pub mod RangeLaws
 pub mod TermLaws
 pub mod CheckLaws
 pub mod AcceptedLaws
+pub mod CheckResultLaws

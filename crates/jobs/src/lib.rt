@@ -1,4 +1,5 @@
 // The values that the solver takes and gives: a job, a result, a refusal. Places past n play no part on the way in and are zero on the way out.
+pub mod check_result;
 pub mod checks;
 pub mod ranges;
 pub mod terms;

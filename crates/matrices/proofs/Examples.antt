@@ -4,8 +4,8 @@ use lib.IntN.{ℤ, pos, negℤ}
 use Rattle.integers.specs.Rounding.{floorBy, ceilBy}
 use Rattle.integers.specs.Least.{minℤ, maxℤ}
 use Rattle.lists.specs.Loops.{carry}
-use Rattle.intervals.specs.declared.Interval.{Interval}
 use Rattle.intervals.specs.Interval.{pointI, addI, negI, sumI, wideI, outI}
+use Rattle.intervals.specs.declared.Interval.{Interval}
 use Rattle.matrices.specs.Products.{dotI, unitZ, entryB, dOf, bOf, eOf}
 
 abbrev from : ℤ → ℤ → Interval

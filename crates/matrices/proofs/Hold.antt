@@ -6,10 +6,10 @@ use Rattle.integers.proofs.Commutative.{one-*ℤ}
 use Rattle.integers.proofs.Parts.{zorder}
 use Rattle.integers.specs.Sums.{sumTo}
 use Rattle.integers.proofs.Order.{pos-mul}
-use Rattle.intervals.specs.declared.Interval.{Interval}
 use Rattle.intervals.specs.Interval.{mark, pointI, wideI}
 use Rattle.intervals.specs.Fraction.{In}
 use Rattle.intervals.proofs.Hold.{hold-point, hold-const, hold-add, hold-neg, hold-sum, hold-wide, hold-out}
+use Rattle.intervals.specs.declared.Interval.{Interval}
 use Rattle.matrices.specs.Products.{dotI, unitZ, entryB, dOf, bOf, eOf}
 
 module _ (n : ℕ) where

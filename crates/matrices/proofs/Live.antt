@@ -5,11 +5,11 @@ use Prim.Native.Nat.{ℕ, _<_, _≤_}
 use lib.IntN.{ℤ}
 use Rattle.sizes.specs.Sizes.{nMax}
 use Rattle.lists.proofs.Tab.{tab-cong}
-use Rattle.intervals.specs.declared.Interval.{Interval}
 use Rattle.intervals.specs.Interval.{zeroI, pointI, addI, negI, wideI, outI}
 use Rattle.intervals.proofs.Places.{side-made}
 use Rattle.intervals.proofs.Sums.{sumI-cong}
 use Rattle.intervals.specs.Places.{sideAt, vectorOf}
+use Rattle.intervals.specs.declared.Interval.{Interval}
 use Rattle.matrices.specs.Products.{dotI, unitZ, entryB, dOf, bOf, eOf}
 
 module _ (n : ℕ) {a b c d : ℕ → Interval} (h : (k : ℕ) → k < n → a k ≡ c k) (g : (k : ℕ) → k < n → b k ≡ d k) where
@@ -21,20 +21,20 @@ module _ (n : ℕ) {a b c d : ℕ → Interval} (h : (k : ℕ) → k < n → a k
   unfolding entryB
   entry-cong i j = ap (λ (s : Interval). outI (addI (pointI (unitZ i j)) (negI s))) dot-cong
 
--- D, B and E of what agrees at the live places
-pub d-cong : (n : ℕ) (C : ℕ → ℕ → ℤ) {F G : ℕ → Interval} → ((k : ℕ) → k < n → F k ≡ G k) → (i : ℕ) → dOf n C F i ≡ dOf n C G i
-unfolding dOf
-d-cong n C g i = ap outI (dot-cong n (λ k _. refl) g)
+-- D, B and E look at the live places of C, F, S, B and Z alone
+module _ (n : ℕ) (C C' : ℕ → ℕ → ℤ) (i : ℕ) (same : (k : ℕ) → k < n → C i k ≡ C' i k) where
+  pub d-cong : {F F' : ℕ → Interval} → ((k : ℕ) → k < n → F k ≡ F' k) → dOf n C F i ≡ dOf n C' F' i
+  unfolding dOf
+  d-cong f = ap outI (dot-cong n (λ k l. ap pointI (same k l)) f)
 
-pub b-cong : (n : ℕ) (C : ℕ → ℕ → ℤ) {S T : ℕ → ℕ → Interval} → ((k j : ℕ) → k < n → j < n → S k j ≡ T k j)
-    → (i j : ℕ) → j < n → bOf n C S i j ≡ bOf n C T i j
-unfolding bOf
-b-cong n C g i j l = entry-cong n (λ k _. refl) (λ k m. g k j m l) i j
+  pub b-cong : (S S' : ℕ → ℕ → Interval) (j : ℕ) → ((k : ℕ) → k < n → S k j ≡ S' k j) → bOf n C S i j ≡ bOf n C' S' i j
+  unfolding bOf
+  b-cong S S' j s = entry-cong n (λ k l. ap pointI (same k l)) s i j
 
-pub e-cong : (n : ℕ) {A B : ℕ → ℕ → Interval} {Y Z : ℕ → Interval} → ((i k : ℕ) → i < n → k < n → A i k ≡ B i k) → ((k : ℕ) → k < n → Y k ≡ Z k)
-    → (i : ℕ) → i < n → eOf n A Y i ≡ eOf n B Z i
+pub e-cong : (n : ℕ) (B B' : ℕ → ℕ → Interval) {Z Z' : ℕ → Interval} (i : ℕ) → ((k : ℕ) → k < n → B i k ≡ B' i k) → ((k : ℕ) → k < n → Z k ≡ Z' k)
+    → eOf n B Z i ≡ eOf n B' Z' i
 unfolding eOf
-e-cong n h g i l = ap outI (dot-cong n (λ k m. h i k l m) g)
+e-cong n B B' i b z = ap outI (dot-cong n b z)
 
 -- the row i of C, as points
 module _ (n : ℕ) (room : n ≤ nMax) (C : ℕ → ℕ → ℤ) (i : ℕ) {row : List Interval} (e : row ≡ vectorOf n (λ k. pointI (C i k))) where

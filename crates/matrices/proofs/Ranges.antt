@@ -9,15 +9,15 @@ use lib.Dec.{eqb}
 use lib.IntN.{ℤ, pos}
 use Rattle.sizes.specs.Sizes.{entryMax}
 use Rattle.integers.specs.Ranges.{Within}
-use Rattle.intervals.specs.declared.Interval.{Interval}
 use Rattle.intervals.specs.Interval.{mark, pointI, negI, wideI}
 use Rattle.intervals.specs.Ranges.{FitsAdd, FitsNeg, FitsMul, InI}
 use Rattle.intervals.proofs.Ranges.{in-point, in-add, in-neg, in-wide, in-out, in-sum, fits-add, fits-neg, fits-mul}
 use Rattle.intervals.specs.Places.{sideAt, cellAt, vectorOf, matrixOf}
-use Rattle.matrices.specs.Products.{dotI, unitZ, entryB, dOf, bOf, eOf}
 use Rattle.sizes.specs.Bounds.{valueMax, slopeMax}
-use Rattle.matrices.specs.Ranges.{zMax, dMax, bMax, eMax, DotIn, DIn, EntryIn, RowIn, BIn, EIn}
 use Rattle.intervals.proofs.Places.{side-made, cell-made}
+use Rattle.intervals.specs.declared.Interval.{Interval}
+use Rattle.matrices.specs.Products.{dotI, unitZ, entryB, dOf, bOf, eOf}
+use Rattle.matrices.specs.Ranges.{zMax, dMax, bMax, eMax, DotIn, DIn, EntryIn, RowIn, BIn, EIn}
 
 pub in-dot : (n A B : ℕ) {a b : ℕ → Interval} → ((k : ℕ) → k < n → InI A (a k)) → ((k : ℕ) → k < n → InI B (b k))
     → InI (n * (A * B)) (dotI n a b)

@@ -4,9 +4,9 @@ use lib.IntN.{ℤ}
 use Rattle.sizes.specs.Sizes.{nMax, entryMax, endMax}
 use Rattle.sizes.specs.Bounds.{valueMax, slopeMax}
 use Rattle.integers.specs.Ranges.{Within}
-use Rattle.intervals.specs.declared.Interval.{Interval}
 use Rattle.intervals.specs.Interval.{mark}
 use Rattle.intervals.specs.Ranges.{InI}
+use Rattle.intervals.specs.declared.Interval.{Interval}
 
 -- Z: an end less a middle
 abbrev pub zMax : ℕ

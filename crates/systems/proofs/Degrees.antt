@@ -6,8 +6,8 @@ use native.Mathlib.Nat.{not-suc-le-zero, le-of-suc-le-suc, eq-or-lt-of-le, le-tr
 use native.Mathlib.Omega.{arith}
 use Rattle.systems.specs.Terms.{lowered}
 use Rattle.jobs.specs.Terms.{degree}
-use Rattle.systems.proofs.Exponents.{lowered-same, lowered-other}
 use Rattle.lists.specs.Loops.{carry}
+use Rattle.systems.proofs.Exponents.{lowered-same, lowered-other}
 
 -- only the exponents below n count
 pub degree-cong : (n : ℕ) (e f : ℕ → ℕ) → ((k : ℕ) → k < n → e k ≡ f k) → degree n e ≡ degree n f

@@ -9,11 +9,11 @@ use Rattle.lists.specs.Loops.{tab, carry}
 use Rattle.integers.specs.Sums.{sumTo}
 use Rattle.integers.proofs.Ring.{neg, lit, _⊕_, _⊖_, _⊗_, ring}
 use Rattle.intervals.specs.Interval.{mark}
+use Rattle.jobs.specs.Terms.{degree}
 use Rattle.jobs.specs.declared.Kind.{Kind}
 use Rattle.jobs.specs.declared.Row.{Row}
 use Rattle.jobs.specs.declared.Job.{Job}
 use Rattle.systems.specs.Fractions.{unitsOf, power, termNum, equationNum}
-use Rattle.jobs.specs.Terms.{degree}
 use Rattle.systems.specs.Kinds.{unitE, vectorE, eigenEquation, equationOf}
 
 abbrev eigenJob : ℕ → List Row → Job

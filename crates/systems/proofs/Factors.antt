@@ -14,10 +14,10 @@ use Rattle.integers.proofs.Commutative.{*ℤ-assoc}
 use Rattle.integers.proofs.Parts.{zorder}
 use Rattle.integers.proofs.Ring.{_⊗_, ring, lit}
 use Rattle.integers.proofs.Order.{pos-mul}
-use Rattle.intervals.specs.declared.Interval.{Interval}
 use Rattle.intervals.specs.Interval.{mark}
 use Rattle.intervals.specs.Fraction.{In}
 use Rattle.intervals.proofs.Hold.{hold-mul}
+use Rattle.intervals.specs.declared.Interval.{Interval}
 use Rattle.systems.specs.Terms.{factorI}
 use Rattle.systems.specs.Fractions.{unitsOf, power}
 

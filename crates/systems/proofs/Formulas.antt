@@ -19,11 +19,11 @@ use Rattle.integers.proofs.Ring.{neg, _⊕_, _⊖_, _⊗_, ring}
 use Rattle.integers.proofs.Sums.{sum-cong, sum-mul-r}
 use Rattle.intervals.specs.Interval.{mark}
 use Rattle.intervals.specs.Places.{numberAt}
+use Rattle.jobs.specs.Places.{noTerm}
 use Rattle.jobs.specs.declared.Kind.{Kind}
 use Rattle.jobs.specs.declared.Term.{Term}
 use Rattle.jobs.specs.declared.Equation.{Equation}
 use Rattle.jobs.specs.declared.Job.{Job}
-use Rattle.jobs.specs.Places.{noTerm}
 use Rattle.systems.specs.Terms.{coefOf, expsOf}
 use Rattle.systems.specs.Fractions.{unitsOf, power, DegreesIn, equationNum}
 use Rattle.systems.specs.Kinds.{unitE, vectorE, eigenE, rowCoef, build, linearEquation, eigenEquation, pinned, rowOf, equationBy, equationOf}

@@ -11,13 +11,13 @@ use Rattle.integers.specs.Sums.{sumTo}
 use Rattle.integers.proofs.Commutative.{*ℤ-assoc, one-*ℤ}
 use Rattle.integers.proofs.Ring.{_⊗_, ring}
 use Rattle.integers.proofs.Sums.{sum-cong, sum-mul-r}
+use Rattle.jobs.specs.Terms.{degree}
+use Rattle.lists.specs.Loops.{carry}
 use Rattle.jobs.specs.declared.Equation.{Equation}
 use Rattle.systems.specs.Terms.{coefOf, expsOf}
 use Rattle.systems.specs.Fractions.{unitsOf, power, termNum, equationNum}
-use Rattle.jobs.specs.Terms.{degree}
 use Rattle.systems.specs.Kinds.{unitE}
 use Rattle.systems.proofs.Factors.{times-one, power-one, power-add}
-use Rattle.lists.specs.Loops.{carry}
 use Rattle.systems.proofs.Exponents.{unit-here, unit-other}
 use Rattle.systems.proofs.Degrees.{degree-cong, degree-add, degree-none}
 use Rattle.systems.proofs.Values.{raised}

@@ -5,11 +5,14 @@ use Prim.Native.Nat.{ℕ, _<_, _≤_}
 use lib.ListN.{getD, replicate}
 use Rattle.sizes.specs.Sizes.{nMax}
 use Rattle.lists.proofs.Tab.{getD-tab, tab-cong}
-use Rattle.intervals.specs.declared.Interval.{Interval}
-use Rattle.intervals.specs.Interval.{zeroI}
-use Rattle.jobs.specs.declared.Equation.{Equation}
+use Rattle.intervals.specs.Interval.{zeroI, pointI}
+use Rattle.intervals.proofs.Sums.{sumI-cong}
+use Rattle.lists.proofs.Carry.{carry-cong}
+use lib.IntN.{ℤ}
 use Rattle.intervals.specs.Places.{sideAt}
-use Rattle.systems.specs.Terms.{equationOver, slopeOver, valuesOver, slopeRow, slopesOver}
+use Rattle.intervals.specs.declared.Interval.{Interval}
+use Rattle.jobs.specs.declared.Equation.{Equation}
+use Rattle.systems.specs.Terms.{coefOf, expsOf, factorI, termOver, equationOver, slopeOver, valuesOver, slopeRow, slopesOver}
 
 module _ {n : ℕ} (room : n ≤ nMax) (q : ℕ → Equation) (X : ℕ → Interval) (i : ℕ) (l : i < n) where
   pub values-at : sideAt (valuesOver n q X) i ≡ equationOver n (q i) X
@@ -30,3 +33,14 @@ module _ (n : ℕ) (q r : ℕ → Equation) (X : ℕ → Interval) (same : (i : 
   pub slopes-cong : slopesOver n q X ≡ slopesOver n r X
   unfolding slopesOver
   slopes-cong = tab-cong (replicate nMax zeroI) nMax n (λ i. slopeRow n (q i) X) (λ i. slopeRow n (r i) X) (λ i l. ap (λ e. slopeRow n e X) (same i l))
+
+-- only the first n coordinates of a box count
+module _ (n : ℕ) {X Y : ℕ → Interval} (same : (k : ℕ) → k < n → X k ≡ Y k) where
+  term-cong : (c : ℤ) (e : ℕ → ℕ) → termOver n c e X ≡ termOver n c e Y
+  unfolding termOver
+  term-cong c e = carry-cong n (pointI c) (λ k a. factorI (e k) a (X k)) (λ k a. factorI (e k) a (Y k)) (λ k a l. ap (factorI (e k) a) (same k l))
+
+  pub equation-cong : (q : Equation) → equationOver n q X ≡ equationOver n q Y
+  unfolding equationOver
+  equation-cong q = sumI-cong (q .count) (λ t. termOver n (coefOf q t) (expsOf q t) X) (λ t. termOver n (coefOf q t) (expsOf q t) Y)
+      (λ t _. term-cong (coefOf q t) (expsOf q t))

@@ -11,16 +11,16 @@ use lib.IntN.{ℤ}
 use lib.ListN.{getD}
 use Rattle.sizes.specs.Sizes.{termsMax, endMax, entryMax, degreeMax}
 use Rattle.lists.specs.Loops.{carry}
-use Rattle.intervals.specs.declared.Interval.{Interval}
 use Rattle.intervals.specs.Interval.{sumI}
 use Rattle.intervals.specs.Ranges.{InI, FitsAdd, FitsMul, FitsScale}
 use Rattle.intervals.proofs.Ranges.{in-zero, in-point, in-more, in-mul, in-scale, in-sum, fits-add, fits-mul, fits-scale}
-use Rattle.jobs.specs.declared.Equation.{Equation}
 use Rattle.intervals.specs.Places.{sideAt}
-use Rattle.systems.specs.Terms.{coefOf, expsOf, factorI, termOver, equationOver, lowered, termSlope, slopeOver, valuesOver, slopesOver}
 use Rattle.jobs.specs.Terms.{degree}
-use Rattle.systems.specs.Ranges.{BoxIn, TermIn, EquationIn, SystemIn, FactorIn, grow}
 use Rattle.sizes.specs.Bounds.{termMax, loweredMax, valueMax, partMax, slopeMax}
+use Rattle.intervals.specs.declared.Interval.{Interval}
+use Rattle.jobs.specs.declared.Equation.{Equation}
+use Rattle.systems.specs.Terms.{coefOf, expsOf, factorI, termOver, equationOver, lowered, termSlope, slopeOver, valuesOver, slopesOver}
+use Rattle.systems.specs.Ranges.{BoxIn, TermIn, EquationIn, SystemIn, FactorIn, grow}
 use Rattle.systems.proofs.Turns.{term-next, slope-none, slope-some}
 use Rattle.systems.proofs.Places.{values-at, slopes-at}
 use Rattle.systems.proofs.Degrees.{degree-next, degree-mono, degree-lowered, exponent-degree}

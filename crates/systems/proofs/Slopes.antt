@@ -15,14 +15,14 @@ use Rattle.integers.specs.Sums.{sumTo}
 use Rattle.integers.proofs.Commutative.{*ℤ-assoc}
 use Rattle.integers.proofs.Ring.{_⊖_, _⊗_, ring}
 use Rattle.integers.proofs.Sums.{sum-cong, sum-sub, sum-mul, sum-mul-r, sum-swap}
-use Rattle.intervals.specs.declared.Interval.{Interval}
 use Rattle.intervals.specs.Interval.{zeroI, scaleI}
 use Rattle.intervals.specs.Fraction.{In}
 use Rattle.intervals.proofs.Hold.{hold-zero, hold-sum, hold-times, hold-raise}
+use Rattle.jobs.specs.Terms.{degree}
+use Rattle.intervals.specs.declared.Interval.{Interval}
 use Rattle.jobs.specs.declared.Equation.{Equation}
 use Rattle.systems.specs.Terms.{coefOf, expsOf, termOver, lowered, termSlope, slopeOver}
 use Rattle.systems.specs.Fractions.{InBox, unitsOf, power, termNum, DegreesIn, equationNum}
-use Rattle.jobs.specs.Terms.{degree}
 use Rattle.systems.proofs.Factors.{power-pos, units-pos, power-add}
 use Rattle.systems.proofs.Degrees.{degree-lowered}
 use Rattle.systems.proofs.Values.{hold-mono, raised}

@@ -8,14 +8,15 @@ use Rattle.sizes.specs.Sizes.{nMax, entryMax}
 use Rattle.integers.specs.Ranges.{Within}
 use Rattle.integers.proofs.Ranges.{within-neg, within-lit}
 use Rattle.lists.proofs.Tab.{getD-tab}
-use Rattle.intervals.specs.declared.Interval.{Interval}
 use Rattle.intervals.specs.Interval.{mark}
+use Rattle.jobs.specs.Places.{noEquation, equationAt}
+use Rattle.jobs.specs.Zero.{zeroEquation}
+use Rattle.intervals.specs.Places.{numberAt}
+use Rattle.intervals.specs.declared.Interval.{Interval}
 use Rattle.jobs.specs.declared.Kind.{Kind}
 use Rattle.jobs.specs.declared.Job.{Job}
-use Rattle.jobs.specs.Places.{noEquation, equationAt}
 use Rattle.systems.specs.Terms.{valuesOver, slopesOver, coefOf}
-use Rattle.systems.specs.Kinds.{unitE, eigenE, rowCoef, zeroEquation, build, linearEquation, eigenEquation, rowOf, pinned, equationBy, equationOf, equationsOf}
-use Rattle.intervals.specs.Places.{numberAt}
+use Rattle.systems.specs.Kinds.{unitE, eigenE, rowCoef, build, linearEquation, eigenEquation, rowOf, pinned, equationBy, equationOf, equationsOf}
 use Rattle.systems.specs.Ranges.{EquationIn, SystemIn, EntriesIn, PartsIn, JobIn}
 use Rattle.systems.proofs.Places.{values-cong, slopes-cong}
 use Rattle.systems.specs.Fractions.{DegreesIn}

@@ -8,10 +8,10 @@ use lib.ListN.{getD, set}
 use lib.Seq.{getD-set-other}
 use borrow.Author.Tests.{eq-eqb, ne-eqb}
 use Rattle.lists.specs.Loops.{carry}
-use Rattle.intervals.specs.declared.Interval.{Interval}
 use Rattle.intervals.specs.Interval.{zeroI, scaleI}
-use Rattle.jobs.specs.declared.Term.{Term}
 use Rattle.jobs.specs.Places.{expOf}
+use Rattle.intervals.specs.declared.Interval.{Interval}
+use Rattle.jobs.specs.declared.Term.{Term}
 use Rattle.systems.proofs.Exponents.{lowered-same, lowered-other}
 use Rattle.systems.specs.Terms.{lowerTerm, factorI, termOver, lowered, termSlope}
 

@@ -5,13 +5,13 @@ use native.Mathlib.Omega.{arith}
 use lib.IntN.{ℤ, _*ℤ_}
 use Rattle.sizes.specs.Sizes.{degreeMax}
 use Rattle.lists.specs.Loops.{carry}
-use Rattle.intervals.specs.declared.Interval.{Interval}
 use Rattle.intervals.specs.Fraction.{In}
 use Rattle.intervals.proofs.Hold.{hold-point, hold-raise, hold-sum}
+use Rattle.jobs.specs.Terms.{degree}
+use Rattle.intervals.specs.declared.Interval.{Interval}
 use Rattle.jobs.specs.declared.Equation.{Equation}
 use Rattle.systems.specs.Terms.{coefOf, expsOf, termOver, equationOver}
 use Rattle.systems.specs.Fractions.{InBox, unitsOf, power, termNum, DegreesIn, equationNum}
-use Rattle.jobs.specs.Terms.{degree}
 use Rattle.systems.proofs.Factors.{power-pos, units-pos, power-add, prodTo, prod-same, hold-factor}
 
 -- c times, for each unknown k, the members G k 0 .. G k (e k - 1)

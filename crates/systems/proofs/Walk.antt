@@ -12,8 +12,8 @@ use Rattle.integers.specs.Sums.{sumTo}
 use Rattle.integers.proofs.Commutative.{*ℤ-assoc}
 use Rattle.integers.proofs.Ring.{lit, _⊕_, _⊖_, _⊗_, ring}
 use Rattle.integers.proofs.Sums.{sum-cong, sum-mul, sum-mul-r}
-use Rattle.intervals.specs.declared.Interval.{Interval}
 use Rattle.intervals.specs.Fraction.{In}
+use Rattle.intervals.specs.declared.Interval.{Interval}
 use Rattle.systems.specs.Terms.{lowered}
 use Rattle.systems.specs.Fractions.{power, termNum}
 use Rattle.systems.proofs.Factors.{times-one, prodTo, prod-same, prod-two}

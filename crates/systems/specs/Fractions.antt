@@ -5,11 +5,11 @@ use lib.IntN.{ℤ, pos, _*ℤ_}
 use lib.Signed.{_<ℤ_}
 use Rattle.sizes.specs.Sizes.{degreeMax}
 use Rattle.integers.specs.Sums.{sumTo}
-use Rattle.intervals.specs.declared.Interval.{Interval}
 use Rattle.intervals.specs.Interval.{mark}
 use Rattle.intervals.specs.Fraction.{In}
-use Rattle.jobs.specs.declared.Equation.{Equation}
 use Rattle.jobs.specs.Terms.{degree}
+use Rattle.intervals.specs.declared.Interval.{Interval}
+use Rattle.jobs.specs.declared.Equation.{Equation}
 use Rattle.systems.specs.Terms.{coefOf, expsOf}
 
 -- the point P over d lies in the box X

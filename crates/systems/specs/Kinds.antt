@@ -4,16 +4,16 @@ use mathlib.Core.List.{List}
 use Prim.Native.Nat.{ℕ, _+_, _-_}
 use lib.Dec.{eqb, ltb}
 use lib.IntN.{ℤ, pos, negℤ}
-use lib.ListN.{replicate}
 use Rattle.sizes.specs.Sizes.{nMax, termsMax}
 use Rattle.lists.specs.Loops.{tab}
 use Rattle.intervals.specs.Interval.{mark}
+use Rattle.intervals.specs.Places.{numberAt}
+use Rattle.jobs.specs.Places.{equationAt, rowAt}
+use Rattle.jobs.specs.Zero.{zeroTerm, zeroEquation}
 use Rattle.jobs.specs.declared.Kind.{Kind}
 use Rattle.jobs.specs.declared.Term.{Term}
 use Rattle.jobs.specs.declared.Equation.{Equation}
 use Rattle.jobs.specs.declared.Job.{Job}
-use Rattle.intervals.specs.Places.{numberAt}
-use Rattle.jobs.specs.Places.{equationAt, rowAt}
 
 -- the exponents of unknown t alone
 unfoldable pub unitE : ℕ → ℕ → ℕ
@@ -26,12 +26,6 @@ vectorE p t k = cond (eqb t p) 0 (unitE t k)
 -- a term of coefficient c and exponents e
 abbrev pub termOf : ℕ → ℤ → (ℕ → ℕ) → Term
 termOf n c e = record { coef = c; exps = tab nMax n 0 e }
-
-abbrev pub zeroTerm : Term
-zeroTerm = record { coef = pos 0; exps = replicate nMax 0 }
-
-abbrev pub zeroEquation : Equation
-zeroEquation = record { count = 0; terms = replicate termsMax zeroTerm }
 
 -- an equation of n + 1 terms
 abbrev pub build : ℕ → (ℕ → ℤ) → (ℕ → ℕ → ℕ) → Equation

@@ -4,16 +4,16 @@ use Prim.Native.Nat.{ℕ, zero, suc, _*_, _≤_, _<_}
 use lib.IntN.{ℤ}
 use Rattle.sizes.specs.Sizes.{nMax, termsMax, endMax, entryMax, degreeMax}
 use Rattle.integers.specs.Ranges.{Within}
-use Rattle.intervals.specs.declared.Interval.{Interval}
 use Rattle.intervals.specs.Ranges.{InI}
-use Rattle.jobs.specs.declared.Kind.{Kind}
-use Rattle.jobs.specs.declared.Equation.{Equation}
-use Rattle.jobs.specs.declared.Job.{Job}
 use Rattle.sizes.specs.Bounds.{termMax}
 use Rattle.intervals.specs.Places.{numberAt}
 use Rattle.jobs.specs.Places.{equationAt}
-use Rattle.systems.specs.Terms.{coefOf, expsOf}
 use Rattle.jobs.specs.Terms.{degree}
+use Rattle.intervals.specs.declared.Interval.{Interval}
+use Rattle.jobs.specs.declared.Kind.{Kind}
+use Rattle.jobs.specs.declared.Equation.{Equation}
+use Rattle.jobs.specs.declared.Job.{Job}
+use Rattle.systems.specs.Terms.{coefOf, expsOf}
 use Rattle.systems.specs.Kinds.{rowOf}
 
 -- a box of n unknowns, its ends within 4.0

@@ -8,10 +8,10 @@ use lib.IntN.{ℤ}
 use lib.ListN.{set, replicate}
 use Rattle.sizes.specs.Sizes.{nMax}
 use Rattle.lists.specs.Loops.{tab, carry}
-use Rattle.intervals.specs.declared.Interval.{Interval}
 use Rattle.intervals.specs.Interval.{zeroI, pointI, scaleI, mulI, sumI}
 use Rattle.intervals.specs.Places.{vectorOf}
 use Rattle.jobs.specs.Places.{expOf, termAt}
+use Rattle.intervals.specs.declared.Interval.{Interval}
 use Rattle.jobs.specs.declared.Term.{Term}
 use Rattle.jobs.specs.declared.Equation.{Equation}
 

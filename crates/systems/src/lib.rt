@@ -12,11 +12,10 @@ ghost use Rattle.integers.specs.Ranges.{Within};
 ghost use Rattle.lists.specs.Loops.{tab};
 ghost use Rattle.sizes.specs.Sizes.{nMax, entryMax};
 ghost use Rattle.intervals.specs.Interval.{pointI};
-ghost use Rattle.intervals.specs.Places.{sideAt};
+ghost use Rattle.intervals.specs.Places.{sideAt, numberAt};
 ghost use Rattle.jobs.specs.Places.{expOf, equationAt};
 ghost use Rattle.systems.specs.Terms.{factorI, termOver, equationOver, lowerTerm, termSlope, slopeOver, valuesOver, slopeRow, slopesOver};
 ghost use Rattle.systems.specs.Kinds.{unitE, vectorE, eigenE, rowCoef, linearEquation, eigenEquation, equationOf, equationsOf};
-ghost use Rattle.intervals.specs.Places.{numberAt};
 ghost use Rattle.systems.specs.Ranges.{FactorIn, BoxIn, TermIn, EquationIn, SystemIn, JobIn};
 
 // a multiplied by x as often as e says, rounding after each product.

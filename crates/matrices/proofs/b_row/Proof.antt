@@ -7,8 +7,8 @@ use Rattle.lists.specs.Loops.{tab}
 use Rattle.lists.proofs.Tab.{tab-none, tab-more, tab-done}
 use Rattle.intervals.specs.Interval.{zeroI}
 use Rattle.intervals.specs.Places.{sideAt, cellAt}
-use Rattle.matrices.specs.Products.{entryB}
 use Rattle.intervals.proofs.Places.{side-made}
+use Rattle.matrices.specs.Products.{entryB}
 use Rattle.matrices.proofs.Live.{entry-cong}
 use Rattle.matrices.proofs.Ranges.{entry-in}
 use Rattle.matrices.proofs.b_row.Statement.{statement}

@@ -9,7 +9,8 @@ use Rattle.intervals.specs.Interval.{mark}
 use Rattle.lists.specs.Loops.{tab}
 use Rattle.lists.proofs.Tab.{tab-none, tab-more, tab-done}
 use Rattle.intervals.specs.Places.{numberAt}
-use Rattle.systems.specs.Kinds.{eigenE, rowCoef, zeroTerm, termOf, eigenEquation}
+use Rattle.jobs.specs.Zero.{zeroTerm}
+use Rattle.systems.specs.Kinds.{eigenE, rowCoef, termOf, eigenEquation}
 use Rattle.systems.proofs.Exponents.{same-term}
 use Rattle.systems.proofs.eigen_equation.Statement.{statement}
 use Rattle.systems.proofs.eigen_equation.Tie as tie

@@ -6,9 +6,9 @@ use mir.Syntax.{w64}
 use mir.Val.{SFits}
 use Rattle.integers.proofs.Machine.{back}
 use Rattle.integers.proofs.Ranges.{fits}
+use Rattle.intervals.specs.Places.{numberAt}
 use Rattle.jobs.specs.declared.Kind.{Kind}
 use Rattle.jobs.specs.declared.Job.{Job}
-use Rattle.intervals.specs.Places.{numberAt}
 use Rattle.systems.specs.Ranges.{JobIn}
 use Rattle.systems.proofs.Systems.{equation-by, parts-by}
 use Rattle.systems.proofs.equation_of.Statement.{statement}

@@ -5,7 +5,8 @@ use native.Mathlib.Omega.{arith}
 use Rattle.sizes.specs.Sizes.{nMax}
 use Rattle.lists.specs.Loops.{tab}
 use Rattle.lists.proofs.Tab.{tab-none, tab-more, tab-done}
-use Rattle.systems.specs.Kinds.{zeroEquation, equationOf}
+use Rattle.jobs.specs.Zero.{zeroEquation}
+use Rattle.systems.specs.Kinds.{equationOf}
 use Rattle.systems.proofs.equations.Statement.{statement}
 use Rattle.systems.proofs.equations.Tie as tie
 

@@ -9,7 +9,8 @@ use Rattle.sizes.specs.Sizes.{termsMax}
 use Rattle.lists.specs.Loops.{tab}
 use Rattle.lists.proofs.Tab.{tab-none, tab-more, tab-done}
 use Rattle.intervals.specs.Places.{numberAt}
-use Rattle.systems.specs.Kinds.{unitE, rowCoef, zeroTerm, termOf, linearEquation}
+use Rattle.jobs.specs.Zero.{zeroTerm}
+use Rattle.systems.specs.Kinds.{unitE, rowCoef, termOf, linearEquation}
 use Rattle.systems.proofs.Exponents.{same-term}
 use Rattle.systems.proofs.linear_equation.Statement.{statement}
 use Rattle.systems.proofs.linear_equation.Tie as tie

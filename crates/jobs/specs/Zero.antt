@@ -1,0 +1,17 @@
+-- The zero values: "places past n play no part; a reader and every result leave them zero". Beside a fault all is zero.
+use lib.IntN.{pos}
+use lib.ListN.{replicate}
+use Rattle.sizes.specs.Sizes.{nMax, termsMax}
+use Rattle.jobs.specs.declared.Term.{Term}
+use Rattle.jobs.specs.declared.Equation.{Equation}
+use Rattle.jobs.specs.declared.Verdict.{Verdict}
+use Rattle.jobs.specs.declared.Result.{Result}
+
+abbrev pub zeroTerm : Term
+zeroTerm = record { coef = pos 0; exps = replicate nMax 0 }
+
+abbrev pub zeroEquation : Equation
+zeroEquation = record { count = 0; terms = replicate termsMax zeroTerm }
+
+abbrev pub noResult : Result
+noResult = record { number = 0; verdict = Verdict.None; steps = 0; n = 0; lo = replicate nMax (pos 0); hi = replicate nMax (pos 0) }

@@ -1,0 +1,100 @@
+-- joined: each turn makes one coordinate of K.
+use mathlib.Core.Path.{_≡_, ap, _∙_}
+use Prim.Native.Nat.{_≤_, _-_}
+use native.Mathlib.Omega.{arith}
+use Rattle.sizes.specs.Sizes.{nMax}
+use Rattle.lists.specs.Loops.{tab}
+use Rattle.lists.proofs.Tab.{tab-none, tab-more, tab-done}
+use Rattle.intervals.specs.Interval.{zeroI, addI, negI}
+use Rattle.intervals.specs.Places.{sideAt}
+use Rattle.intervals.proofs.Ranges.{in-add, in-neg, fits-add, fits-neg}
+use Rattle.run.proofs.step.joined.Statement.{statement}
+use Rattle.run.proofs.step.joined.Tie as tie
+
+abbrev Inv-loop : tie.InvT-loop
+Inv-loop n m d e k₀ i₀ k i = (i ≤ n) × (k ≡ tab nMax i zeroI (λ j. addI (addI (sideAt m j) (negI (sideAt d j))) (sideAt e j)))
+
+abbrev μ-loop : tie.MeasureT-loop
+μ-loop n m d e k₀ i₀ k i = n - i
+
+loop-holds : tie.Need-loop-holds Inv-loop μ-loop
+loop-holds c = (omega arith, tab-none zeroI nMax _)
+
+mul-add : tie.Need-mul-add Inv-loop μ-loop
+mul-add c = omega arith
+
+array-copy-out-add : tie.Need-array-copy-out-add Inv-loop μ-loop
+array-copy-out-add c = omega arith
+
+mul-negated : tie.Need-mul-negated Inv-loop μ-loop
+mul-negated c = omega arith
+
+array-copy-out-negated : tie.Need-array-copy-out-negated Inv-loop μ-loop
+array-copy-out-negated c = omega arith
+
+negated-requires : tie.Need-negated-requires Inv-loop μ-loop
+negated-requires c κs = let l = c .before .before .before in fits-neg (omega arith) (l .before .pre .d (l .loop .i) (c .before .before .loop-test .taken))
+
+add-requires : tie.Need-add-requires Inv-loop μ-loop
+add-requires c κs =
+    let l = c .before .before .before .before in
+    let t = c .before .before .before .loop-test .taken in
+    rw (c .negated .ensures) (fits-add (omega arith) (l .before .pre .middles (l .loop .i) t) (in-neg (l .before .pre .d (l .loop .i) t)))
+
+mul-add-2 : tie.Need-mul-add-2 Inv-loop μ-loop
+mul-add-2 c = omega arith
+
+array-copy-out-add-2 : tie.Need-array-copy-out-add-2 Inv-loop μ-loop
+array-copy-out-add-2 c = omega arith
+
+add-requires-2 : tie.Need-add-requires-2 Inv-loop μ-loop
+add-requires-2 c κs =
+    let l = c .before .before .before .before .before .before in
+    let p = l .before .pre in
+    let t = c .before .before .before .before .before .loop-test .taken in
+    let newton = c .before .add .ensures ∙ ap (addI _) (c .before .before .negated .ensures) in
+    rw newton (fits-add (omega arith) (in-add (p .middles (l .loop .i) t) (in-neg (p .d (l .loop .i) t))) (p .e (l .loop .i) t))
+
+mul-k : tie.Need-mul-k Inv-loop μ-loop
+mul-k c = omega arith
+
+array-set-from-k : tie.Need-array-set-from-k Inv-loop μ-loop
+array-set-from-k c = omega arith
+
+add-i : tie.Need-add-i Inv-loop μ-loop
+add-i c = omega arith
+
+loop-less : tie.Need-loop-less Inv-loop μ-loop
+loop-less c = omega arith
+
+loop-again : tie.Need-loop-again Inv-loop μ-loop
+loop-again c =
+    let l = c .before .before .before .before .before .before .before in
+    let newton = c .before .before .add .ensures ∙ ap (addI _) (c .before .before .before .negated .ensures) in
+    (omega arith, tab-more zeroI nMax _ _ (omega arith) (l .loop .inv .1) (rw newton at (c .add2 .ensures)))
+
+returns : tie.Need-returns Inv-loop μ-loop
+returns c = tab-done zeroI nMax _ (c .before .loop .inv .0) (c .loop-test .left) (c .before .loop .inv .1)
+
+pub joined-spec : {M : Type 1} → statement M
+joined-spec =
+    tie.close
+    (tie.spec
+    Inv-loop
+    μ-loop
+    loop-holds
+    mul-add
+    array-copy-out-add
+    mul-negated
+    array-copy-out-negated
+    negated-requires
+    add-requires
+    mul-add-2
+    array-copy-out-add-2
+    add-requires-2
+    mul-k
+    array-set-from-k
+    add-i
+    loop-less
+    loop-again
+    returns)

@@ -1,0 +1,78 @@
+-- start_box: each turn makes one side of the box.
+use mathlib.Core.Path.{_≡_, ap₂}
+use Prim.Native.Nat.{_≤_, _-_}
+use native.Mathlib.Omega.{arith}
+use lib.IntN.{ℤ}
+use Rattle.sizes.specs.Sizes.{nMax}
+use Rattle.lists.specs.Loops.{tab}
+use Rattle.lists.proofs.Tab.{tab-none, tab-more, tab-done}
+use Rattle.integers.proofs.Machine.{back, ok}
+use Rattle.intervals.specs.Interval.{zeroI}
+use Rattle.intervals.specs.Places.{numberAt}
+use Rattle.intervals.specs.declared.Interval.{Interval}
+use Rattle.run.specs.Job.{startOf}
+use Rattle.run.proofs.values.start_box.Statement.{statement}
+use Rattle.run.proofs.values.start_box.Tie as tie
+
+abbrev interval : ℤ → ℤ → Interval
+interval a b = record { lo = a; hi = b }
+
+abbrev Inv-loop : tie.InvT-loop
+Inv-loop n lo hi x₀ k₀ x k = (k ≤ n) × (x ≡ tab nMax k zeroI (λ i. record { lo = numberAt lo i; hi = numberAt hi i }))
+
+abbrev μ-loop : tie.MeasureT-loop
+μ-loop n lo hi x₀ k₀ x k = n - k
+
+loop-holds : tie.Need-loop-holds Inv-loop μ-loop
+loop-holds c = (omega arith, tab-none zeroI nMax _)
+
+mul-t9 : tie.Need-mul-t9 Inv-loop μ-loop
+mul-t9 c = omega arith
+
+array-copy-out-t12 : tie.Need-array-copy-out-t12 Inv-loop μ-loop
+array-copy-out-t12 c = omega arith
+
+mul-t13 : tie.Need-mul-t13 Inv-loop μ-loop
+mul-t13 c = omega arith
+
+array-copy-out-t16 : tie.Need-array-copy-out-t16 Inv-loop μ-loop
+array-copy-out-t16 c = omega arith
+
+mul-x : tie.Need-mul-x Inv-loop μ-loop
+mul-x c = omega arith
+
+array-set-from-x : tie.Need-array-set-from-x Inv-loop μ-loop
+array-set-from-x c = omega arith
+
+add-k : tie.Need-add-k Inv-loop μ-loop
+add-k c = omega arith
+
+loop-less : tie.Need-loop-less Inv-loop μ-loop
+loop-less c = omega arith
+
+loop-again : tie.Need-loop-again Inv-loop μ-loop
+loop-again c =
+    let l = c .before .before .before .loop in
+    (omega arith, tab-more zeroI nMax _ _ (omega arith) (l .inv .1) (ap₂ interval (back (ok _ (c .before .t12 .given))) (back (ok _ (c .t16 .given)))))
+
+returns : tie.Need-returns Inv-loop μ-loop
+unfolding startOf
+returns c = tab-done zeroI nMax _ (c .before .loop .inv .0) (c .loop-test .left) (c .before .loop .inv .1)
+
+pub start-box-spec : {M : Type 1} → statement M
+start-box-spec =
+    tie.close
+    (tie.spec
+    Inv-loop
+    μ-loop
+    loop-holds
+    mul-t9
+    array-copy-out-t12
+    mul-t13
+    array-copy-out-t16
+    mul-x
+    array-set-from-x
+    add-k
+    loop-less
+    loop-again
+    returns)

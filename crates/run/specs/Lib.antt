@@ -1,0 +1,6 @@
+pub mod Step
+pub mod Newton
+pub mod Decide
+pub mod Run
+pub mod Ranges
+pub mod Job

@@ -1,0 +1,129 @@
+// The run of a job: Krawczyk steps until one decides or the allowance is used up.
+pub mod step;
+pub mod values;
+
+use intervals::Interval;
+use jobs::Equation;
+use jobs::Job;
+use jobs::Result;
+use jobs::Status;
+use jobs::Verdict;
+use sizes::N;
+ghost use mathlib.Core.Path.{_≡_};
+ghost use Rattle.intervals.specs.Places.{entryAt, sideAt};
+ghost use Rattle.jobs.specs.Places.{equationAt};
+ghost use Rattle.jobs.specs.Checks.{checkJob};
+ghost use Rattle.jobs.specs.declared.Status.{Status};
+ghost use Rattle.run.specs.Run.{runOf};
+ghost use Rattle.run.specs.Job.{outcomeOf, resultOf, runJob};
+ghost use Rattle.run.specs.Ranges.{StepIn};
+
+// What a step decides: a verdict, or that X becomes the cut and the next step begins.
+pub enum Move {
+    None,
+    Unique,
+    Stalled,
+    Next,
+}
+
+// The box stands beside the enum, which holds no array.
+pub struct Decision {
+    pub what: Move,
+    pub sides: [Interval; N],
+}
+
+pub struct Outcome {
+    pub verdict: Verdict,
+    pub steps: u64,
+    pub sides: [Interval; N],
+}
+
+// Beside a fault the result is all zero.
+pub struct Answer {
+    pub status: Status,
+    pub result: Result,
+}
+
+// At most `allowance` steps from the box `start` on. Every step begun is counted, the deciding one too.
+pub fn run_steps(
+    eqs: [Equation; N],
+    c: [[i64; N]; N],
+    start: [Interval; N],
+    n: usize,
+    allowance: u64,
+) -> Outcome
+    requires { ⌜ StepIn n (equationAt eqs) (entryAt c) (sideAt start) ⌝ }
+    ensures { λ r. ⌜ r ≡ runOf n (equationAt eqs) (entryAt c) allowance 0 start ⌝ }
+{
+    let mut x = start;
+    let mut done: u64 = 0;
+    while done < allowance {
+        let k = step::image(eqs, c, x, n);
+        let d = step::decide(x, k, n);
+        let what = d.what;
+        let next = d.sides;
+        done += 1;
+        match what {
+            Move::None => {
+                return Outcome {
+                    verdict: Verdict::None,
+                    steps: done,
+                    sides: next,
+                };
+            }
+            Move::Unique => {
+                return Outcome {
+                    verdict: Verdict::Unique,
+                    steps: done,
+                    sides: next,
+                };
+            }
+            Move::Stalled => {
+                return Outcome {
+                    verdict: Verdict::Stalled,
+                    steps: done,
+                    sides: next,
+                };
+            }
+            Move::Next => {
+                x = next;
+            }
+        }
+    }
+    Outcome {
+        verdict: Verdict::Spent,
+        steps: done,
+        sides: x,
+    }
+}
+
+// The result of a job whose values are right.
+fn accepted(j: Job) -> Result
+    requires { ⌜ checkJob j ≡ Status.Done ⌝ }
+    ensures { λ r. ⌜ r ≡ resultOf j (outcomeOf j) ⌝ }
+{
+    let n = j.n;
+    let inv = j.inv;
+    let eqs = systems::equations(j);
+    let c = values::matrix(inv, n);
+    let x = values::start_box(j);
+    let o = run_steps(eqs, c, x, n, j.steps);
+    values::result_of(j, o)
+}
+
+// The run of a job. Every value is taken: its values are checked first, in the order of its text's lines.
+pub fn run(j: Job) -> Answer
+    ensures { λ r. ⌜ r ≡ runJob j ⌝ }
+{
+    let status = jobs::checks::check_job(j);
+    match status {
+        Status::Done => Answer {
+            status: Status::Done,
+            result: accepted(j),
+        },
+        Status::Refused(fault, line) => Answer {
+            status: Status::Refused(fault, line),
+            result: values::no_result(),
+        },
+    }
+}

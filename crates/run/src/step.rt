@@ -1,0 +1,150 @@
+// One Krawczyk step: the image K of a box X, and what X and K decide.
+use crate::Decision;
+use crate::Move;
+use intervals::Interval;
+use jobs::Equation;
+use sizes::N;
+ghost use mathlib.Core.Path.{_≡_};
+ghost use Prim.Native.Nat.{_≤_};
+ghost use Rattle.sizes.specs.Sizes.{nMax};
+ghost use Rattle.intervals.specs.Interval.{pointI, addI, negI};
+ghost use Rattle.intervals.specs.Places.{entryAt, sideAt, vectorOf};
+ghost use Rattle.jobs.specs.Places.{equationAt};
+ghost use Rattle.systems.specs.Ranges.{BoxIn};
+ghost use Rattle.run.specs.Step.{middleOf};
+ghost use Rattle.run.specs.Decide.{allMeet, allInside, allSame, cutBox, decideOf};
+ghost use Rattle.run.specs.Run.{imageBox};
+ghost use Rattle.run.specs.Ranges.{StepIn, JoinIn};
+
+// m, as the box [m, m].
+pub fn middles(x: [Interval; N], n: usize) -> [Interval; N]
+    requires { ⌜ BoxIn n (sideAt x) ⌝ }
+    ensures { λ r. ⌜ r ≡ vectorOf n (λ k. pointI (middleOf (sideAt x) k)) ⌝ }
+{
+    let mut m = [Interval { lo: 0, hi: 0 }; N];
+    for k in 0..n {
+        m[k] = intervals::point(intervals::middle(x[k]));
+    }
+    m
+}
+
+// Z = X - m.
+pub fn offsets(x: [Interval; N], m: [Interval; N], n: usize) -> [Interval; N]
+    requires { ⌜ BoxIn n (sideAt x) ⌝ }
+    requires { ⌜ BoxIn n (sideAt m) ⌝ }
+    ensures { λ r. ⌜ r ≡ vectorOf n (λ k. addI (sideAt x k) (negI (sideAt m k))) ⌝ }
+{
+    let mut z = [Interval { lo: 0, hi: 0 }; N];
+    for k in 0..n {
+        z[k] = intervals::add(x[k], intervals::negated(m[k]));
+    }
+    z
+}
+
+// K = m - D + E.
+pub fn joined(m: [Interval; N], d: [Interval; N], e: [Interval; N], n: usize) -> [Interval; N]
+    requires { ⌜ JoinIn n (sideAt m) (sideAt d) (sideAt e) ⌝ }
+    ensures { λ r. ⌜ r ≡ vectorOf n (λ i. addI (addI (sideAt m i) (negI (sideAt d i))) (sideAt e i)) ⌝ }
+{
+    let mut k = [Interval { lo: 0, hi: 0 }; N];
+    for i in 0..n {
+        let newton = intervals::add(m[i], intervals::negated(d[i]));
+        k[i] = intervals::add(newton, e[i]);
+    }
+    k
+}
+
+// The image K of the box x, with the inverse c.
+pub fn image(eqs: [Equation; N], c: [[i64; N]; N], x: [Interval; N], n: usize) -> [Interval; N]
+    requires { ⌜ StepIn n (equationAt eqs) (entryAt c) (sideAt x) ⌝ }
+    ensures { λ r. ⌜ r ≡ imageBox n (equationAt eqs) (entryAt c) x ⌝ }
+{
+    let m = middles(x, n);
+    let f = systems::values_over(eqs, m, n);
+    let s = systems::slopes_over(eqs, x, n);
+    let d = matrices::d_vector(c, f, n);
+    let b = matrices::b_matrix(c, s, n);
+    let z = offsets(x, m, n);
+    let e = matrices::e_vector(b, z, n);
+    joined(m, d, e, n)
+}
+
+// Does every coordinate of k meet that of x?
+pub fn all_meet(x: [Interval; N], k: [Interval; N], n: usize) -> bool
+    requires { ⌜ n ≤ nMax ⌝ }
+    ensures { λ r. ⌜ r ≡ allMeet n x k ⌝ }
+{
+    for i in 0..n {
+        if !intervals::meets(x[i], k[i]) {
+            return false;
+        }
+    }
+    true
+}
+
+// Does k lie strictly inside x?
+pub fn all_inside(x: [Interval; N], k: [Interval; N], n: usize) -> bool
+    requires { ⌜ n ≤ nMax ⌝ }
+    ensures { λ r. ⌜ r ≡ allInside n x k ⌝ }
+{
+    for i in 0..n {
+        if !intervals::strictly_inside(x[i], k[i]) {
+            return false;
+        }
+    }
+    true
+}
+
+pub fn all_same(a: [Interval; N], b: [Interval; N], n: usize) -> bool
+    requires { ⌜ n ≤ nMax ⌝ }
+    ensures { λ r. ⌜ r ≡ allSame n a b ⌝ }
+{
+    for i in 0..n {
+        if !intervals::same(a[i], b[i]) {
+            return false;
+        }
+    }
+    true
+}
+
+// k cut with x.
+pub fn cut_box(x: [Interval; N], k: [Interval; N], n: usize) -> [Interval; N]
+    requires { ⌜ n ≤ nMax ⌝ }
+    ensures { λ r. ⌜ r ≡ cutBox n x k ⌝ }
+{
+    let mut c = [Interval { lo: 0, hi: 0 }; N];
+    for i in 0..n {
+        c[i] = intervals::cut(x[i], k[i]);
+    }
+    c
+}
+
+// What the image k decides on the box x.
+pub fn decide(x: [Interval; N], k: [Interval; N], n: usize) -> Decision
+    requires { ⌜ n ≤ nMax ⌝ }
+    ensures { λ r. ⌜ r ≡ decideOf n x k ⌝ }
+{
+    if !all_meet(x, k, n) {
+        return Decision {
+            what: Move::None,
+            sides: x,
+        };
+    }
+    if all_inside(x, k, n) {
+        return Decision {
+            what: Move::Unique,
+            sides: k,
+        };
+    }
+    let c = cut_box(x, k, n);
+    if all_same(c, x, n) {
+        return Decision {
+            what: Move::Stalled,
+            sides: x,
+        };
+    }
+    Decision {
+        what: Move::Next,
+        sides: c,
+    }
+}

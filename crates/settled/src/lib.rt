@@ -1,0 +1,1 @@
+// Theory only: any two answers that a public function's contract allows are equal.

@@ -1,0 +1,50 @@
+-- show: what `systems` asks holds of a small job, and its answers are in the bound.
+use Rattle.vectors_systems.proofs.Facts.{asked, values-shown, slopes-shown}
+use borrow.Author.Needs.{needs}
+use Rattle.vectors_systems.proofs.show.Statement.{statement}
+use Rattle.vectors_systems.proofs.show.Tie as tie
+
+equations-requires : tie.Need-equations-requires
+equations-requires c κs = search needs
+
+slice-aggregate-write-all : tie.Need-slice-aggregate-write-all
+slice-aggregate-write-all c = search needs
+
+write-all-requires : tie.Need-write-all-requires
+write-all-requires c κs = search needs
+
+values-over-requires : tie.Need-values-over-requires
+values-over-requires c κs =
+    let s = c .before .before .before in
+    asked (s .pre .0) (s .pre .1 .0) (c .before .before .equations .ensures)
+
+row-requires : tie.Need-row-requires
+row-requires c κs =
+    let s = c .before .before .before .before in
+    values-shown (s .pre .0) (s .pre .1 .0) (c .before .before .before .equations .ensures) (c .values-over .ensures)
+
+slopes-over-requires : tie.Need-slopes-over-requires
+slopes-over-requires c κs =
+    let s = c .before .before .before .before .before in
+    asked (s .pre .0) (s .pre .1 .1) (c .before .before .before .before .equations .ensures)
+
+rows-requires : tie.Need-rows-requires
+rows-requires c κs =
+    let s = c .before .before .before .before .before .before in
+    slopes-shown (s .pre .0) (s .pre .1 .1) (c .before .before .before .before .before .equations .ensures) (c .slopes-over .ensures)
+
+returns : tie.Need-returns
+returns c = search needs
+
+pub show-spec : {M : Type 1} → statement M
+show-spec =
+    tie.close
+    (tie.spec
+    equations-requires
+    slice-aggregate-write-all
+    write-all-requires
+    values-over-requires
+    row-requires
+    slopes-over-requires
+    rows-requires
+    returns)
