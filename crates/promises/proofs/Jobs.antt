@@ -1,0 +1,89 @@
+-- An accepted job gives a system, and its solutions are the system's zeros.
+use mathlib.Core.Path.{_≡_, refl, _∙_}
+use mathlib.Core.List.{[], _∷_}
+use mathlib.Core.Logic.{_↔_}
+use Prim.Native.Nat.{ℕ, _-_, _<_}
+use lib.IntN.{ℤ, pos, _-ℤ_, _*ℤ_, zero-*ℤ}
+use lib.Signed.{_<ℤ_}
+use Rattle.sizes.specs.Sizes.{degreeMax}
+use Rattle.integers.specs.Sums.{sumTo}
+use Rattle.integers.proofs.Parts.{zorder}
+use Rattle.integers.proofs.Linear.{zlin}
+use Rattle.integers.proofs.Order.{cancel-r}
+use Rattle.integers.proofs.Ring.{lit, _⊖_, _⊗_, ring}
+use Rattle.intervals.specs.Places.{sideAt, numberAt}
+use Rattle.intervals.proofs.Places.{side-made}
+use Rattle.jobs.specs.Accepted.{GoodSystem, Accepted}
+use Rattle.systems.specs.Fractions.{unitsOf, DegreesIn}
+use Rattle.systems.specs.Kinds.{pinned, rowOf, equationBy, equationOf}
+use Rattle.systems.specs.Formulas.{linearNum, coordinate, eigenNum, formulaNum}
+use Rattle.systems.proofs.Factors.{power-pos, units-pos}
+use Rattle.intervals.specs.Interval.{mark}
+use Rattle.systems.proofs.Formulas.{equation-is, equation-degrees}
+use Rattle.run.specs.Job.{startOf, inverseOf}
+use Rattle.jobs.specs.declared.Kind.{Kind}
+use Rattle.jobs.specs.declared.Job.{Job}
+use Rattle.promises.specs.Claims.{Point, Zero, Ordered, System}
+use Rattle.promises.specs.Jobs.{Solves, SolvesLinear, Eigenpair}
+
+module _ (j : Job) (a : Accepted j) where
+  pub given-degrees : (i : ℕ) → i < j .n → j .kind ≡ Kind.Poly → DegreesIn (j .n) (equationBy Kind.Poly j i)
+  given-degrees i l e = let good : GoodSystem Kind.Poly j i = rw e at (a .system i l) in record { each = good .deg }
+
+  pub start-order : Ordered (j .n) (sideAt (startOf j))
+  unfolding startOf
+  start-order k l = rw (side-made (j .n) (a .few) (λ k. record { lo = numberAt (j .lo) k; hi = numberAt (j .hi) k }) refl k l) (a .ordered k l)
+
+  abbrev pub systemOf : System
+  systemOf = record {
+    n = j .n;
+    room = a .few;
+    equations = equationOf j;
+    degrees = λ i l. equation-degrees j (a .few) i l (given-degrees i l);
+    inverse = inverseOf j;
+    start = startOf j;
+    order = start-order;
+  }
+
+  pub solves-zero : {p : Point} → Solves j p → Zero (j .n) (equationOf j) p
+  solves-zero {p} s = record { each = λ i l. equation-is j (a .few) i l (p .num) (p .den) ∙ s .each i l }
+
+-- ---- a formula is 0 exactly where its two sides are equal
+no-difference : (x y : ℤ) {w : ℤ} → pos 0 <ℤ w → ((x -ℤ y) *ℤ w ≡ pos 0) ↔ (x ≡ y)
+no-difference x y {w} p = (apart, meet)
+  where
+    apart : (x -ℤ y) *ℤ w ≡ pos 0 → x ≡ y
+    apart e =
+        let z = zero-*ℤ w in
+        let low = cancel-r (x -ℤ y) (pos 0) w p (omega zorder) in
+        let high = cancel-r (pos 0) (x -ℤ y) w p (omega zorder) in
+        omega (zorder, simp zlin at low, simp zlin at high)
+
+    meet : x ≡ y → (x -ℤ y) *ℤ w ≡ pos 0
+    meet e = rw e (ring (y ∷ w ∷ []) (λ y w. (y ⊖ y) ⊗ w) (λ y w. lit (pos 0)) refl)
+
+module _ (j : Job) {p : Point} (den : pos 0 <ℤ p .den) where
+  pub linear-zeros : j .kind ≡ Kind.Linear → Solves j p ↔ SolvesLinear j p
+  unfolding formulaNum linearNum
+  linear-zeros e = (
+    λ s. record { each = λ i l. both i .0 (rw e at (s .each i l)) },
+    λ s. record { each = λ i l. rw e (both i .1 (s .each i l)) },
+  )
+    where
+      both : (i : ℕ) → (linearNum (j .n) (rowOf j i) (numberAt (j .right) i) (p .num) (p .den) ≡ pos 0)
+          ↔ (sumTo (j .n) (λ k. rowOf j i k *ℤ p .num k) ≡ numberAt (j .right) i *ℤ unitsOf (p .den))
+      both i = unfold linearNum in (no-difference _ _ (power-pos (degreeMax - 1) (units-pos den)))
+
+  pub eigen-zeros : j .kind ≡ Kind.Eigen → Solves j p ↔ Eigenpair j p
+  unfolding formulaNum eigenNum
+  eigen-zeros e = (
+    λ s. record { each = λ i l. both i .0 (rw e at (s .each i l)) },
+    λ s. record { each = λ i l. rw e (both i .1 (s .each i l)) },
+  )
+    where
+      x : ℕ → ℤ
+      x = coordinate (pinned j) (p .num) (p .den)
+
+      both : (i : ℕ) → (eigenNum (j .n) (pinned j) (rowOf j i) i (p .num) (p .den) ≡ pos 0)
+          ↔ (sumTo (j .n) (λ k. rowOf j i k *ℤ x k) *ℤ unitsOf (p .den) ≡ pos mark *ℤ (p .num (pinned j) *ℤ x i))
+      both i = unfold eigenNum in (no-difference _ _ (power-pos (degreeMax - 2) (units-pos den)))

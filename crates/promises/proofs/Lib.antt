@@ -1,0 +1,10 @@
+pub mod Largest
+pub mod Contraction
+pub mod Scale
+pub mod Points
+pub mod Runs
+pub mod Answers
+pub mod Promises
+pub mod Jobs
+pub mod Demand3
+pub mod Examples

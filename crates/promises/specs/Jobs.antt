@@ -1,0 +1,34 @@
+-- What demand 3 says of a job: its run with any allowance, and its solutions in the formulas of document 01, "The three kinds".
+use mathlib.Core.Path.{_≡_}
+use Prim.Native.Nat.{ℕ, _<_}
+use lib.IntN.{pos, _*ℤ_}
+use Rattle.integers.specs.Sums.{sumTo}
+use Rattle.intervals.specs.Interval.{mark}
+use Rattle.intervals.specs.Places.{numberAt}
+use Rattle.systems.specs.Fractions.{unitsOf}
+use Rattle.systems.specs.Kinds.{pinned, rowOf, equationOf}
+use Rattle.systems.specs.Formulas.{coordinate, formulaNum}
+use Rattle.run.specs.Run.{runOf}
+use Rattle.run.specs.Job.{startOf, inverseOf}
+use Rattle.jobs.specs.declared.Job.{Job}
+use Rattle.run.specs.declared.Outcome.{Outcome}
+use Rattle.promises.specs.Claims.{Point}
+
+-- the job's run with an allowance
+abbrev pub jobRun : Job → ℕ → Outcome
+jobRun j allowance = runOf (j .n) (equationOf j) (inverseOf j) allowance 0 (startOf j)
+
+-- the point is a zero of the job: the formula of each equation is 0 there
+pub record Solves (j : Job) (p : Point) : Type 0 where
+  pub each : (i : ℕ) → i < j .n → formulaNum j i (p .num) (p .den) ≡ pos 0
+
+-- "a linear one (A x = b)": row i times x is b(i). Unknown k is p k over 65,536 den.
+pub record SolvesLinear (j : Job) (p : Point) : Type 0 where
+  pub each : (i : ℕ) → i < j .n → sumTo (j .n) (λ k. rowOf j i k *ℤ p .num k) ≡ numberAt (j .right) i *ℤ unitsOf (p .den)
+
+-- "an eigenpair of a matrix", A x = L x, "the last coordinate of the vector is set to 1" and unknown n is L: row i times x is L x(i). In marks L x(i) is 65,536
+-- times what it is in units.
+pub record Eigenpair (j : Job) (p : Point) : Type 0 where
+  pub each : (i : ℕ) → i < j .n
+      → sumTo (j .n) (λ k. rowOf j i k *ℤ coordinate (pinned j) (p .num) (p .den) k) *ℤ unitsOf (p .den)
+      ≡ pos mark *ℤ (p .num (pinned j) *ℤ coordinate (pinned j) (p .num) (p .den) i)

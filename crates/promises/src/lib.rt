@@ -1,0 +1,1 @@
+// Demand 3: specs/ has the words of the claims, proofs/ the theorems. There is no code here.
