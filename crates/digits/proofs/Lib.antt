@@ -1,0 +1,5 @@
+pub mod Cases
+pub mod Lists
+pub mod Show
+pub mod ReadBack
+pub mod WriteBack

@@ -1,0 +1,4 @@
+pub mod ReadBack
+pub mod LinesRead
+pub mod WriteBack
+pub mod Settled

@@ -1,0 +1,80 @@
+// The writer of a result text.
+ghost use mathlib.Core.List.{_++_};
+ghost use Prim.Native.Nat.{_+_, _<_, _≤_};
+ghost use Rattle.jobs.specs.declared.Status.{Status};
+ghost use Rattle.jobs.specs.CheckResult.{checkResult};
+ghost use Rattle.writing.specs.Wrote.{placeMax, Wrote, line};
+ghost use Rattle.writing.specs.Answer.{Leaves};
+ghost use Rattle.resulttext.specs.Words.{verdictKey, verdictWord};
+ghost use Rattle.resultwrite.specs.Show.{showResult, Ready};
+use jobs::Fault;
+use jobs::Result;
+use jobs::Status;
+use jobs::Verdict;
+use jobs::check_result::check_result;
+use writing::Written;
+use writing::put_count_line;
+use writing::put_row_line;
+use writing::put_word_line;
+
+fn put_verdict(buf: &mut [u8], at: usize, v: Verdict) -> usize
+    requires { ⌜ at + 100 ≤ placeMax ⌝ }
+    ensures { λ r. ⌜ Wrote (now (buf .entry)) (now (buf .exit)) at r (line (verdictKey ++ verdictWord v)) ⌝ }
+{
+    match v {
+        Verdict::None => put_word_line(buf, at, b"verdict=", b"none"),
+        Verdict::Unique => put_word_line(buf, at, b"verdict=", b"unique"),
+        Verdict::Stalled => put_word_line(buf, at, b"verdict=", b"stalled"),
+        Verdict::Spent => put_word_line(buf, at, b"verdict=", b"spent"),
+    }
+}
+
+// The whole text, from the buffer's start on.
+fn put_result(buf: &mut [u8], r: Result) -> usize
+    requires { ⌜ Ready r ⌝ }
+    ensures { λ k. ⌜ Wrote (now (buf .entry)) (now (buf .exit)) 0 k (showResult r) ⌝ }
+{
+    let n = r.n;
+    let lo = r.lo;
+    let hi = r.hi;
+    let v = r.verdict;
+    let a = put_count_line(buf, 0, b"job=", r.number);
+    let b = put_verdict(buf, a, v);
+    let c = put_count_line(buf, b, b"steps=", r.steps);
+    let d = put_row_line(buf, c, b"lo=", lo, n);
+    put_row_line(buf, d, b"hi=", hi, n)
+}
+
+// The same writer on a buffer of one byte measures the text first, so that nothing is written where it does not fit.
+fn write_ready(r: Result, out: &mut [u8]) -> Written
+    requires { ⌜ Ready r ⌝ }
+    ensures { λ a. ⌜ Leaves Status.Done (showResult r) (now (out .entry)) (now (out .exit)) a ⌝ }
+{
+    let mut scratch = [0u8; 1];
+    let len = put_result(&mut scratch, r);
+    if out.len() < len {
+        return Written {
+            status: Status::Refused(Fault::ShortBuffer, 0),
+            len: 0,
+        };
+    }
+    put_result(out, r);
+    Written {
+        status: Status::Done,
+        len,
+    }
+}
+
+// A result's text, for any values and any buffer.
+pub fn write_result(r: Result, out: &mut [u8]) -> Written
+    ensures { λ a. ⌜ Leaves (checkResult r) (showResult r) (now (out .entry)) (now (out .exit)) a ⌝ }
+{
+    let status = check_result(r);
+    match status {
+        Status::Refused(f, line) => Written {
+            status: Status::Refused(f, line),
+            len: 0,
+        },
+        Status::Done => write_ready(r, out),
+    }
+}

@@ -1,0 +1,55 @@
+-- A loop that goes through a slice byte by byte and hands on each piece between separators: what one turn does to the fold that it computes.
+use Prim.Native.Nat.{ℕ, suc, _+_, _-_, _≤_, _<_}
+use native.Mathlib.Omega.{arith}
+use native.Mathlib.Numerals.{add-one}
+use mathlib.Core.Path.{_≡_, refl, _∙_}
+use mathlib.Core.List.{List, [], _∷_, _++_}
+use lib.ListN.{length, take, drop, getD, length-drop, drop-of-length-le}
+use lib.Seq.{take-suc, drop-cons, getD-drop}
+use borrow.Author.Tests.{eq-eqb, ne-eqb}
+use Rattle.text.specs.Cut.{Cut, fresh, feed, feeds}
+
+-- the part from a to i, and one byte more of it
+part-more : (s : List ℕ) (a i : ℕ) → a ≤ i → i < length s → take (i + 1 - a) (drop a s) ≡ take (i - a) (drop a s) ++ (getD s i 0 ∷ [])
+part-more s a i p q =
+    let e : i + 1 - a ≡ suc (i - a) = omega arith in
+    let f : a + (i - a) ≡ i = omega arith in
+    rw e (take-suc (drop a s) (i - a) 0 (omega (arith, length-drop a s)) ∙ rw (getD-drop, f) refl)
+
+-- the state st with the part from a to i held
+abbrev pub at-part : {S : Type 0} → S → List ℕ → ℕ → ℕ → Cut S
+at-part st s a i = record { st = st; held = take (i - a) (drop a s) }
+
+module _ {S : Type 0} (step : S → List ℕ → S) (sep : ℕ) where
+  pub feed-sep : (k : Cut S) (b : ℕ) → b ≡ sep → feed step sep k b ≡ fresh (step (k .st) (k .held))
+  unfolding feed
+  feed-sep k b e = rw (eq-eqb b sep e)
+
+  pub feed-held : (k : Cut S) (b : ℕ) → (b ≡ sep → ⊥) → feed step sep k b ≡ record { st = k .st; held = k .held ++ (b ∷ []) }
+  unfolding feed
+  feed-held k b n = rw (ne-eqb b sep n)
+
+  pub feeds-none : (k : Cut S) → feeds step sep k [] ≡ k
+  unfolding feeds
+  feeds-none k = refl
+
+  pub feeds-cons : (k : Cut S) (b : ℕ) (bs : List ℕ) → feeds step sep k (b ∷ bs) ≡ feeds step sep (feed step sep k b) bs
+  unfolding feeds
+  feeds-cons k b bs = refl
+
+  -- at the end nothing is left to feed
+  pub all-fed : (s : List ℕ) (k : Cut S) (i : ℕ) → length s ≤ i → feeds step sep k (drop i s) ≡ k
+  unfolding feeds
+  all-fed s k i h = rw (drop-of-length-le s h)
+
+  module _ (s : List ℕ) (st : S) (a i : ℕ) (p : a ≤ i) (q : i < length s) where
+    pub ended : getD s i 0 ≡ sep
+        → feeds step sep (at-part st s a i) (drop i s)
+        ≡ feeds step sep (at-part (step st (take (i - a) (drop a s))) s (i + 1) (i + 1)) (drop (i + 1) s)
+    ended e =
+        let z : i + 1 - (i + 1) ≡ 0 = omega arith in
+        rw (z, drop-cons s i 0 q, add-one i, feeds-cons, feed-sep (at-part st s a i) (getD s i 0) e)
+
+    pub kept : (getD s i 0 ≡ sep → ⊥)
+        → feeds step sep (at-part st s a i) (drop i s) ≡ feeds step sep (at-part st s a (i + 1)) (drop (i + 1) s)
+    kept n = rw (part-more s a i p q, drop-cons s i 0 q, add-one i, feeds-cons, feed-held (at-part st s a i) (getD s i 0) n)

@@ -1,0 +1,5 @@
+pub mod Cuts
+pub mod Keys
+pub mod Pieces
+pub mod Counts
+pub mod Lists

@@ -1,0 +1,27 @@
+-- A text taken byte by byte and cut at each separator: lines at LF, the fields of a list at the comma.
+use Prim.Native.Nat.{ℕ}
+use mathlib.Core.List.{List, [], _∷_, _++_, foldl}
+use mathlib.Core.Bool.{cond}
+use lib.Dec.{eqb}
+
+-- what is made of the pieces that have ended, and the bytes of the piece that has not
+pub record Cut (S : Type 0) : Type 0 where
+  pub st : S
+  pub held : List ℕ
+
+-- with no byte held
+abbrev pub fresh : {S : Type 0} → S → Cut S
+fresh s = record { st = s; held = [] }
+
+-- one byte more: a separator ends the piece, and any other byte is held
+unfoldable pub feed : {S : Type 0} → (S → List ℕ → S) → ℕ → Cut S → ℕ → Cut S
+feed step sep k b = cond (eqb b sep) (fresh (step (k .st) (k .held))) (record { st = k .st; held = k .held ++ (b ∷ []) })
+
+-- all of a text
+unfoldable pub feeds : {S : Type 0} → (S → List ℕ → S) → ℕ → Cut S → List ℕ → Cut S
+feeds step sep k bs = foldl (feed step sep) k bs
+
+-- each piece with the separator after it
+unfoldable pub endEach : ℕ → List (List ℕ) → List ℕ
+endEach sep [] = []
+endEach sep (l ∷ ls) = l ++ (sep ∷ endEach sep ls)

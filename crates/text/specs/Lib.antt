@@ -1,0 +1,4 @@
+pub mod Cut
+pub mod Keys
+pub mod Counts
+pub mod Lists

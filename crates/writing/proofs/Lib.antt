@@ -1,0 +1,4 @@
+pub mod Wrote
+pub mod Lists
+pub mod Lines
+pub mod Answer

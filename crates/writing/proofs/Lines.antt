@@ -1,0 +1,24 @@
+-- How long a line is at most.
+use Prim.Native.Nat.{ℕ, _+_, _*_, _≤_}
+use native.Mathlib.Omega.{arith}
+use mathlib.Core.List.{List, [], _∷_, _++_}
+use lib.ListN.{length, length-append}
+use lib.IntN.{ℤ}
+use Rattle.digits.specs.Bytes.{lineFeed}
+use Rattle.digits.specs.Number.{digitsMax}
+use Rattle.digits.specs.Show.{showMagnitude}
+use Rattle.digits.proofs.Show.{show-short}
+use Rattle.text.specs.Lists.{showList}
+use Rattle.writing.specs.Wrote.{line}
+use Rattle.writing.proofs.Lists.{list-short}
+
+pub count-line-short : (key : List ℕ) (m : ℕ) → length (line (key ++ showMagnitude digitsMax m)) ≤ length key + digitsMax + 1
+unfolding line
+count-line-short key m =
+    rw (length-append (key ++ showMagnitude digitsMax m) (lineFeed ∷ []), length-append key (showMagnitude digitsMax m))
+    (omega (arith, show-short digitsMax m))
+
+pub list-line-short : (key : List ℕ) (xs : List ℤ) → length (line (key ++ showList xs)) ≤ length key + (digitsMax + 2) * length xs + 1
+unfolding line
+list-line-short key xs =
+    rw (length-append (key ++ showList xs) (lineFeed ∷ []), length-append key (showList xs)) (omega (arith, list-short xs))

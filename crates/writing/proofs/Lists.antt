@@ -1,0 +1,52 @@
+-- Laws of a written list, as a loop over its places takes them.
+use Prim.Native.Nat.{ℕ, zero, suc, _+_, _*_, _≤_, _<_, _^_}
+use native.Mathlib.Omega.{arith}
+use native.Mathlib.Numerals.{add-one}
+use mathlib.Core.Path.{_≡_, refl}
+use mathlib.Core.List.{List, [], _∷_, _++_, map, append-assoc, append-nil}
+use lib.ListN.{length, getD, length-append, drop-of-length-le}
+use lib.Seq.{drop-cons}
+use lib.IntN.{ℤ, pos, natAbs}
+use Rattle.digits.specs.Bytes.{comma}
+use Rattle.digits.specs.Number.{digitsMax}
+use Rattle.digits.specs.Show.{showNumber}
+use Rattle.digits.proofs.Show.{number-short}
+use Rattle.text.specs.Lists.{afterCommas, joined, showList, Small}
+use Rattle.writing.specs.Wrote.{showMore}
+
+pub small-at : (xs : List ℤ) (i : ℕ) → Small xs → i < length xs → natAbs (getD xs i (pos 0)) < 10 ^ digitsMax
+unfolding Small
+small-at [] i s h = absurd (omega arith)
+small-at (x ∷ xs) zero s h = s .0
+small-at (x ∷ xs) (suc i) s h = small-at xs i (s .1) (omega arith)
+
+-- one number more
+pub more-one : (xs : List ℤ) (i : ℕ) (done : List ℕ) → i < length xs
+    → done ++ showMore i xs ≡ ((done ++ (comma ∷ [])) ++ showNumber (getD xs i (pos 0))) ++ showMore (i + 1) xs
+unfolding showMore afterCommas
+more-one xs i done h = rw (drop-cons xs i (pos 0) h, add-one i, append-assoc (done ++ (comma ∷ [])), append-assoc done)
+
+pub more-end : (xs : List ℤ) (i : ℕ) (done : List ℕ) → length xs ≤ i → done ++ showMore i xs ≡ done
+unfolding showMore afterCommas
+more-end xs i done h = rw (drop-of-length-le xs h) (append-nil done)
+
+pub list-none : (xs : List ℤ) → length xs ≡ 0 → showList xs ≡ []
+unfolding showList joined
+list-none [] e = refl
+list-none (x ∷ xs) e = absurd (omega (arith, e))
+
+pub list-some : (xs : List ℤ) → (length xs ≡ 0 → ⊥) → showList xs ≡ showNumber (getD xs 0 (pos 0)) ++ showMore 1 xs
+unfolding showList joined showMore
+list-some [] n = absurd (n refl)
+list-some (x ∷ xs) n = refl
+
+-- a comma, a minus and nine digits for each number
+after-short : (xs : List ℤ) → length (afterCommas (map showNumber xs)) ≤ (digitsMax + 2) * length xs
+unfolding afterCommas
+after-short [] = omega arith
+after-short (v ∷ vs) = rw (length-append (showNumber v) (afterCommas (map showNumber vs))) (omega (arith, number-short v, after-short vs))
+
+pub list-short : (xs : List ℤ) → length (showList xs) ≤ (digitsMax + 2) * length xs
+unfolding showList joined
+list-short [] = omega arith
+list-short (v ∷ vs) = rw (length-append (showNumber v) (afterCommas (map showNumber vs))) (omega (arith, number-short v, after-short vs))

@@ -1,0 +1,80 @@
+-- `writing::put_number` meets its contract.
+use borrow.Author.Needs.{needs}
+use mathlib.Core.Path.{_≡_, refl, ap, _∙_}
+use mir.Facts.{toZ-ofZ}
+use lib.IntN.{ℤ, pos, negsuc, natAbs}
+use lib.Signed.{ltZ, mag}
+use mathlib.Core.Bool.{true, false, true≢false}
+use mathlib.Core.List.{_∷_}
+use Prim.Native.Nat.{_≤_}
+use native.Mathlib.Omega.{arith}
+use borrow.Author.Tests.{ltb-true}
+use Rattle.writing.proofs.Wrote.{wrote-append}
+use Rattle.digits.specs.Number.{digitsMax}
+use Rattle.digits.specs.Show.{showMagnitude, showNumber}
+use Rattle.writing.proofs.put_number.Statement.{statement}
+use Rattle.writing.proofs.put_number.Tie as tie
+
+small : (v : ℤ) → mag v ≤ natAbs v
+small (pos n) = omega arith
+small (negsuc n) = omega arith
+
+neg : (v : ℤ) → ltZ v (pos 0) ≡ true → showNumber v ≡ 45 ∷ showMagnitude digitsMax (natAbs v)
+unfolding showNumber
+neg (pos n) t = absurd (omega (arith, ltb-true n 0 t))
+neg (negsuc n) t = refl
+
+non : (v : ℤ) → ltZ v (pos 0) ≡ false → showNumber v ≡ showMagnitude digitsMax (natAbs v)
+unfolding showNumber
+non (pos n) t = refl
+non (negsuc n) t = absurd (true≢false t)
+
+abs-requires : tie.Need-abs-requires
+abs-requires c κs = rw (toZ-ofZ (c .before .fits .v)) (omega (arith, small (c .before .args .v), c .before .pre .1))
+
+put-byte-requires : tie.Need-put-byte-requires
+put-byte-requires c κs = search needs
+
+put-magnitude-requires : tie.Need-put-magnitude-requires
+put-magnitude-requires c κs = search needs
+
+same-length : tie.Need-same-length
+same-length c = search needs
+
+returns : tie.Need-returns
+returns c =
+    let test = c .before .before .before .before .before .before .before .before .if1 .taken in
+    let abs = c .before .before .before .before .before .before .before .before .before .abs .ensures in
+    let start = c .before .before .before .before .before .before .before .before .before .before .before in
+    let e = toZ-ofZ (start .fits .v) in
+    rw (neg (start .args .v) (rw e at test), ← (abs ∙ ap natAbs e))
+    (wrote-append (c .before .before .before .before .before .before .put-byte .ensures) (c .before .before .put-magnitude .ensures))
+
+put-magnitude-requires-2 : tie.Need-put-magnitude-requires-2
+put-magnitude-requires-2 c κs = search needs
+
+same-length-2 : tie.Need-same-length-2
+same-length-2 c = search needs
+
+returns-2 : tie.Need-returns-2
+returns-2 c =
+    let start = c .before .before .before .before .before .before .before in
+    let e = toZ-ofZ (start .fits .v) in
+    rw (
+      non (start .args .v) (rw e at (c .before .before .before .before .if1 .left)),
+      ← (c .before .before .before .before .before .abs .ensures ∙ ap natAbs e),
+    )
+    (c .before .before .put-magnitude2 .ensures)
+
+pub put-number-spec : {M : Type 1} → statement M
+put-number-spec =
+    tie.close
+    (tie.spec
+    abs-requires
+    put-byte-requires
+    put-magnitude-requires
+    same-length
+    returns
+    put-magnitude-requires-2
+    same-length-2
+    returns-2)

@@ -1,0 +1,39 @@
+-- `writing::put_row_line` meets its contract.
+use borrow.Author.Needs.{needs}
+use native.Mathlib.Omega.{arith}
+use mathlib.Core.Path.{_≡_, sym}
+use lib.ListN.{length, length-take}
+use lib.Seq.{length-take-le}
+use Rattle.sizes.specs.Sizes.{nMax}
+use Rattle.writing.proofs.put_row_line.Statement.{statement}
+use Rattle.writing.proofs.put_row_line.Tie as tie
+
+array-share-prefix-row : tie.Need-array-share-prefix-row
+array-share-prefix-row c = search needs
+
+slice-aggregate-put-list-line : tie.Need-slice-aggregate-put-list-line
+slice-aggregate-put-list-line c =
+    let start = c .before .before .before .before in
+    let long : length (start .args .t4) ≡ nMax = search needs in
+    sym (length-take-le (start .args .n) (start .args .t4) (omega (arith, start .pre .few)))
+
+put-list-line-requires : tie.Need-put-list-line-requires
+put-list-line-requires c κs =
+    let start = c .before .before .before .before in
+    (omega (arith, start .pre .room, start .pre .few, length-take (start .args .n) (start .args .t4)), start .pre .small)
+
+same-length : tie.Need-same-length
+same-length c = search needs
+
+returns : tie.Need-returns
+returns c = search needs
+
+pub put-row-line-spec : {M : Type 1} → statement M
+put-row-line-spec =
+    tie.close
+    (tie.spec
+    array-share-prefix-row
+    slice-aggregate-put-list-line
+    put-list-line-requires
+    same-length
+    returns)

@@ -1,0 +1,139 @@
+// Writing into a lent buffer, byte by byte. A byte past the buffer's end is counted and not written, so that the same functions measure a text.
+ghost use mathlib.Core.Path.{_≡_};
+ghost use mathlib.Core.List.{[], _∷_, _++_};
+ghost use Prim.Native.Nat.{_+_, _*_, _≤_, _<_, _^_};
+ghost use lib.ListN.{length, take};
+ghost use lib.IntN.{natAbs};
+ghost use Rattle.digits.specs.Number.{digitsMax};
+ghost use Rattle.digits.specs.Show.{showMagnitude, showNumber};
+ghost use Rattle.text.specs.Lists.{showList, Small};
+ghost use Rattle.writing.specs.Wrote.{placeMax, Wrote, showMore, line, RowFits};
+use jobs::Status;
+use sizes::N;
+
+// The answer of a text's writer: how many bytes were written, 0 beside a fault.
+pub struct Written {
+    pub status: Status,
+    pub len: usize,
+}
+
+// One byte at its place, if there is one.
+pub fn put_byte(buf: &mut [u8], at: usize, b: u8) -> usize
+    requires { ⌜ at < placeMax ⌝ }
+    ensures { λ r. ⌜ Wrote (now (buf .entry)) (now (buf .exit)) at r (b ∷ []) ⌝ }
+{
+    if at < buf.len() {
+        buf[at] = b;
+        return at + 1;
+    }
+    at + 1
+}
+
+// Some bytes.
+pub fn put_bytes(buf: &mut [u8], at: usize, bs: &[u8]) -> usize
+    requires { ⌜ at + length (now bs) ≤ placeMax ⌝ }
+    ensures { λ r. ⌜ Wrote (now (buf .entry)) (now (buf .exit)) at r (now (bs .entry)) ⌝ }
+{
+    let mut p = at;
+    let mut i = 0;
+    while i < bs.len() {
+        p = put_byte(buf, p, bs[i]);
+        i += 1;
+    }
+    p
+}
+
+// The digits of m, at most k.
+pub fn put_magnitude(buf: &mut [u8], at: usize, m: u64, k: usize) -> usize
+    requires { ⌜ at + k ≤ placeMax ⌝ }
+    ensures { λ r. ⌜ Wrote (now (buf .entry)) (now (buf .exit)) at r (showMagnitude k m) ⌝ }
+{
+    if k == 0 {
+        return at;
+    }
+    if m < 10 {
+        return put_byte(buf, at, (48 + m) as u8);
+    }
+    let next = put_magnitude(buf, at, m / 10, k - 1);
+    put_byte(buf, next, (48 + m % 10) as u8)
+}
+
+// A number of at most nine digits.
+pub fn put_number(buf: &mut [u8], at: usize, v: i64) -> usize
+    requires { ⌜ (at + digitsMax < placeMax) × (natAbs v < 10 ^ digitsMax) ⌝ }
+    ensures { λ r. ⌜ Wrote (now (buf .entry)) (now (buf .exit)) at r (showNumber v) ⌝ }
+{
+    let m = digits::abs(v);
+    if v < 0 {
+        let next = put_byte(buf, at, b'-');
+        return put_magnitude(buf, next, m, digits::DIGITS);
+    }
+    put_magnitude(buf, at, m, digits::DIGITS)
+}
+
+// The numbers from the second on, each after a comma.
+fn put_more(buf: &mut [u8], at: usize, xs: &[i64]) -> usize
+    requires { ⌜ (at + (digitsMax + 2) * length (now xs) ≤ placeMax) × Small (now xs) ⌝ }
+    ensures { λ r. ⌜ Wrote (now (buf .entry)) (now (buf .exit)) at r (showMore 1 (now (xs .entry))) ⌝ }
+{
+    let mut p = at;
+    let mut i = 1;
+    while i < xs.len() {
+        let v = xs[i];
+        p = put_byte(buf, p, b',');
+        p = put_number(buf, p, v);
+        i += 1;
+    }
+    p
+}
+
+// Numbers joined by commas.
+pub fn put_list(buf: &mut [u8], at: usize, xs: &[i64]) -> usize
+    requires { ⌜ (at + (digitsMax + 2) * (1 + length (now xs)) ≤ placeMax) × Small (now xs) ⌝ }
+    ensures { λ r. ⌜ Wrote (now (buf .entry)) (now (buf .exit)) at r (showList (now (xs .entry))) ⌝ }
+{
+    if xs.len() == 0 {
+        return at;
+    }
+    let v = xs[0];
+    let next = put_number(buf, at, v);
+    put_more(buf, next, xs)
+}
+
+// A line: a key, some bytes and LF.
+pub fn put_word_line(buf: &mut [u8], at: usize, key: &[u8], word: &[u8]) -> usize
+    requires { ⌜ at + length (now key) + length (now word) < placeMax ⌝ }
+    ensures { λ r. ⌜ Wrote (now (buf .entry)) (now (buf .exit)) at r (line (now (key .entry) ++ now (word .entry))) ⌝ }
+{
+    let a = put_bytes(buf, at, key);
+    let b = put_bytes(buf, a, word);
+    put_byte(buf, b, b'\n')
+}
+
+// A line: a key, a count and LF.
+pub fn put_count_line(buf: &mut [u8], at: usize, key: &[u8], m: u64) -> usize
+    requires { ⌜ at + length (now key) + digitsMax < placeMax ⌝ }
+    ensures { λ r. ⌜ Wrote (now (buf .entry)) (now (buf .exit)) at r (line (now (key .entry) ++ showMagnitude digitsMax m)) ⌝ }
+{
+    let a = put_bytes(buf, at, key);
+    let b = put_magnitude(buf, a, m, digits::DIGITS);
+    put_byte(buf, b, b'\n')
+}
+
+// A line: a key, a list and LF.
+pub fn put_list_line(buf: &mut [u8], at: usize, key: &[u8], xs: &[i64]) -> usize
+    requires { ⌜ (at + length (now key) + (digitsMax + 2) * (1 + length (now xs)) < placeMax) × Small (now xs) ⌝ }
+    ensures { λ r. ⌜ Wrote (now (buf .entry)) (now (buf .exit)) at r (line (now (key .entry) ++ showList (now (xs .entry)))) ⌝ }
+{
+    let a = put_bytes(buf, at, key);
+    let b = put_list(buf, a, xs);
+    put_byte(buf, b, b'\n')
+}
+
+// A line: a key, the first n of a row and LF.
+pub fn put_row_line(buf: &mut [u8], at: usize, key: &[u8], row: [i64; N], n: usize) -> usize
+    requires { ⌜ RowFits at (now key) row n ⌝ }
+    ensures { λ r. ⌜ Wrote (now (buf .entry)) (now (buf .exit)) at r (line (now (key .entry) ++ showList (take n row))) ⌝ }
+{
+    put_list_line(buf, at, key, &row[..n])
+}
