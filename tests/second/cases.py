@@ -1,0 +1,151 @@
+"""Cases from a seed: requests (operation, text) with the expected answers.
+
+About half are right texts; the others are damaged ones.  The fixed cases come
+first: document 01's examples and the places its readers get wrong.
+"""
+
+from arithmetic import (Job, KINDS, MARK, MAX_END, MAX_ENTRY, MAX_JOB, MAX_N,
+                        MAX_STEPS, MAX_TERMS, Result, VERDICTS)
+from damage import DIGITS, JOBS, STEPS, WORDS, at_limits, bytes_of, damaged
+from dice import Dice
+from jobs import allowance, job_number, monomials, random_job
+from texts import answer, job_text, result_text
+
+JOB_41 = Job(41, "poly", 1, [65_536], [131_072], [21_845], 8,
+             [[(65_536, (2,)), (-131_072, (0,))]])
+T7 = Job(7, "poly", 1, [0], [2], [65_536], 8, [[(65_536, (1,))]])
+T9 = Job(9, "poly", 1, [0], [0], [65_536], 8, [[(65_536, (1,)), (-65_536, (0,))]])
+T11 = Job(11, "linear", 2, [-65_536] * 2, [65_536] * 2, [32_768, 0, 0, 16_384], 8,
+          [[131_072, 0, 65_536], [0, 262_144, 65_536]])
+T12 = Job(12, "eigen", 2, [65_535, 131_071], [65_537, 131_073],
+          [-65_536, 65_536, 0, -65_536], 8, [[65_536, 65_536], [0, 131_072]])
+EXAMPLES = [JOB_41, T7, T7._replace(steps=1), T9, JOB_41._replace(inv=[0]), T11, T12,
+            JOB_41._replace(steps=0)]
+
+
+def largest_job(kind):
+    """A job with every number as long as it may be."""
+    full = [-MAX_ENTRY] * (MAX_N * MAX_N)
+    width = MAX_N + 1 if kind == "linear" else MAX_N
+    if kind == "poly":
+        line = [(-MAX_ENTRY, e) for e in monomials(MAX_N)[:MAX_TERMS]]
+    else:
+        line = [-MAX_ENTRY] * width
+    return Job(MAX_JOB, kind, MAX_N, [-MAX_END] * MAX_N, [-MAX_END] * MAX_N, full,
+               MAX_STEPS, [line] * MAX_N)
+
+
+def equation_texts():
+    """Job texts of n = 3 whose first or last `eq` line is at the edge of fault 6."""
+    all_terms = ["1:" + "".join(map(str, e)) for e in monomials(3)]
+    full, beyond = all_terms[:MAX_TERMS], f"{MAX_ENTRY + 1}:000"
+    right = job_text(Job(3, "poly", 3, [0] * 3, [1] * 3, [0] * 9, 1, [[]] * 3))
+    for terms in [
+            full, full + all_terms[MAX_TERMS:][:1], full + ["1:00"], full + ["x:000"],
+            full + [beyond], full + [beyond, "1:x00"], full + ["0:000"], full + [full[0]],
+            ["1:300"], ["1:400"], ["1:310"], ["1:030"], ["1:004"], ["1:999"], ["1:900"],
+            ["0:100"], ["1:100", "0:000"], ["1:100", "1:100"], ["1:100", "1:101"],
+            ["1:101", "1:100"], ["1:100", "1:010", "1:011"],
+            [f"{MAX_ENTRY + 1}:400"], ["0:999", beyond], ["0:999", "1:0"], [beyond, "-0:000"],
+            ["1:1000"], ["1:10"], ["1:"], [":100"], ["1"], ["1:100", ""], ["", "1:100"]]:
+        line = b"eq=" + ",".join(terms).encode()
+        yield right.replace(b"eq=", line, 1)
+        yield right[:-len(b"eq=\n")] + line + b"\n"
+
+
+def spelling_texts(lines):
+    """The lines of one word or one number in every odd spelling."""
+    tables = {b"job": JOBS, b"kind": WORDS, b"verdict": WORDS, b"n": DIGITS, b"steps": STEPS}
+    for at, line in enumerate(lines):
+        key = line.partition(b"=")[0]
+        for spelled in tables.get(key, []):
+            changed = key + b"=" + bytes_of(spelled)
+            yield b"\n".join(lines[:at] + [changed] + lines[at + 1:] + [b""])
+
+
+def fixed():
+    """The cases that stand in every set."""
+    for job in EXAMPLES + [largest_job(kind) for kind in KINDS]:
+        text = job_text(job)
+        yield "solve", text
+        yield "job", text
+        yield "result", answer("solve", text)
+    for kind in KINDS:                # all n, nothing but zeros, boxes without width
+        for n in range(1, MAX_N + 1):
+            line = [] if kind == "poly" else [0] * (n + (kind == "linear"))
+            yield "solve", job_text(Job(0, kind, n, [0] * n, [0] * n, [0] * n * n,
+                                        1, [line] * n))
+    for operation in ("solve", "job", "result"):
+        yield operation, b""
+    two = JOB_41._replace(n=2, lo=[-1, -9], hi=[1, 9], inv=[0] * 4,
+                          lines=[[(5, (1, 1)), (-7, (0, 0))], [(3, (0, 1))]])
+    for job in (two, T11, T12):
+        for text in at_limits(job_text(job).split(b"\n")[:-1]):
+            yield "job", text
+    for text in (*equation_texts(), *spelling_texts(job_text(two).split(b"\n")[:-1])):
+        yield "job", text
+    lines = answer("solve", job_text(T11)).split(b"\n")[:-1]
+    for text in (*at_limits(lines), *spelling_texts(lines)):
+        yield "result", text
+
+
+def random_result(dice):
+    """A result that every check accepts; "the reader doesn't ask whether verdict
+    and steps belong together"."""
+    n = dice.between(1, MAX_N)
+    size = dice.pick([0, 1, 9, MARK, MAX_END])
+    ends = [sorted([dice.pick([size, -size, dice.around(size)]), dice.around(size)])
+            for _ in range(n)]
+    return Result(job_number(dice), dice.pick(VERDICTS), allowance(dice),
+                  [low for low, _ in ends], [high for _, high in ends])
+
+
+def small_job(dice):
+    """A job for the readers: each n as often, so that every line is met."""
+    return random_job(dice, dice.pick(["poly", *KINDS]), dice.between(1, MAX_N))
+
+
+def random_case(dice):
+    """One request."""
+    throw = dice.below(100)
+    if throw < 42:
+        return "solve", job_text(random_job(dice))
+    if throw < 46:
+        return "job", job_text(small_job(dice))
+    if throw < 78:
+        return dice.pick(["job", "solve"]), damaged(dice, job_text(small_job(dice)))
+    if throw < 84:
+        return "result", result_text(random_result(dice))
+    if throw < 98:
+        return "result", damaged(dice, result_text(random_result(dice)))
+    if throw == 98:
+        return "result", job_text(small_job(dice))
+    return "job", result_text(random_result(dice))
+
+
+def cases(seed, count):
+    """count requests, the fixed ones first."""
+    dice = Dice(seed)
+    made = 0
+    for case in fixed():
+        if made < count:
+            yield case
+            made += 1
+    for _ in range(count - made):
+        yield random_case(dice)
+
+
+def write_cases(seed, count, requests, answers):
+    """Writes the batch input and the expected output to two binary files, and
+    returns how often each kind of answer came."""
+    mix = {}
+    for operation, text in cases(seed, count):
+        reply = answer(operation, text)
+        requests.write(b"%s %d\n" % (operation.encode(), len(text)) + text)
+        answers.write(b"%d\n" % len(reply) + reply)
+        lines = reply.decode("ascii").split("\n")
+        kind = lines[0] if lines[0].startswith("fault") else f"{operation} right"
+        if kind == "solve right":
+            kind = f"solve {lines[1]}"
+        mix[kind] = mix.get(kind, 0) + 1
+    return mix

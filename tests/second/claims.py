@@ -1,0 +1,174 @@
+"""What must hold of every accepted job, tried on random fraction points.
+
+    claims.py [--seed S] [--count K]
+
+- Nesting: with a larger allowance the box lies in that of a smaller one, and a
+  verdict once reached stands.
+- Newton: at each step the exact Newton image p - C f(p) of every fraction point
+  p of X lies in K.
+- Zeros: a zero in the starting box is in the box handed back; none is not said.
+- Contraction: at unique, for two points p and q of the X of the deciding step,
+  the greatest |g(p) - g(q)| over the widths of X is below that of |p - q|, where g
+  is the exact Newton image; so X holds at most one zero.
+- Kinds: the built equations equal the formulas of the three kinds at every
+  fraction point.
+"""
+
+import argparse
+from collections import Counter
+from fractions import Fraction
+
+import arithmetic
+from arithmetic import MARK
+from dice import Dice
+from jobs import random_job
+from texts import read_job, job_text
+from zeros import job_with_zeros
+
+
+class Breach(Exception):
+    """A claim that does not hold, with the job that shows it."""
+
+
+def claim(holds, name, job, *shown):
+    """Fails loudly unless the claim holds."""
+    if not holds:
+        raise Breach(f"{name} does not hold: {shown}\n{job_text(job).decode()}")
+
+
+def inside(point, box):
+    """Whether a point lies in a box, edges included."""
+    return all(a <= v <= b for v, (a, b) in zip(point, box))
+
+
+def values_at(equations, p):
+    """f(p) in marks, in fractions and without rounding."""
+    found = []
+    for equation in equations:
+        value = Fraction(0)
+        for c, exponents in equation:
+            for v, e in zip(p, exponents):
+                c *= (v / MARK) ** e
+            value += c
+        found.append(value)
+    return found
+
+
+def newton(job, equations, p):
+    """"The exact Newton image of a fraction point p is p - C f(p)." """
+    f = values_at(equations, p)
+    return [v - sum(c * w for c, w in zip(row, f)) / MARK
+            for v, row in zip(p, arithmetic.rows_of(job))]
+
+
+def fraction_point(dice, box):
+    """"A whole number for each unknown over one whole denominator"; ends and
+    middles are taken often."""
+    d = dice.pick([1, 2, 3, 7, 64, 1_000])
+    return [Fraction(dice.pick([a * d, b * d, (a + b) * d // 2,
+                                dice.between(a * d, b * d),
+                                dice.between(a * d, b * d)]), d) for a, b in box]
+
+
+def formulas(job, p):
+    """The linear and eigenpair equations as document 01 spells them."""
+    n, found = job.n, []
+    for i, row in enumerate(job.lines):
+        if job.kind == "linear":
+            found.append(sum(a * v / MARK for a, v in zip(row, p)) - row[n])
+        else:
+            x = [v / MARK for v in p[:n - 1]] + [Fraction(1)]
+            found.append(sum(row[j] * x[j] for j in range(n - 1)) + row[n - 1]
+                         - p[n - 1] * x[i])
+    return found
+
+
+def try_nesting(job, tried):
+    """Nesting over the allowances 0 to 9."""
+    before = None
+    for allowed in range(10):
+        now = arithmetic.run(job._replace(steps=allowed))
+        claim(now.steps <= allowed, "steps within the allowance", job, allowed)
+        if before:
+            box = list(zip(before.lo, before.hi))
+            claim(inside(now.lo, box) and inside(now.hi, box), "nesting", job, allowed)
+            if before.verdict != "spent":
+                claim(now == before, "a verdict once reached stands", job, allowed)
+            tried["nesting: pairs of allowances"] += 1
+        before = now
+
+
+def distance(p, q, widths):
+    """The greatest |p - q| over the widths."""
+    return max(abs(v - w) / width for v, w, width in zip(p, q, widths))
+
+
+def try_unique(dice, job, equations, X, zeros, tried):
+    """The contraction at a unique step, and at most one zero."""
+    widths = [b - a for a, b in X]
+    claim(min(widths) > 0, "widths at unique", job, X)
+    for _ in range(6):
+        p, q = fraction_point(dice, X), fraction_point(dice, X)
+        if p != q:
+            g, h = newton(job, equations, p), newton(job, equations, q)
+            claim(distance(g, h, widths) < distance(p, q, widths),
+                  "contraction", job, p, q)
+            tried["contraction: pairs of points"] += 1
+    claim(sum(inside(zero, X) for zero in zeros) <= 1, "at most one zero", job, zeros)
+    tried["unique: boxes with at most one known zero"] += 1
+
+
+def try_job(dice, job, zeros, tried):
+    """All claims on one job; zeros are its known ones."""
+    equations = arithmetic.equations_of(job)
+    start = list(zip(job.lo, job.hi))
+    for zero in zeros:
+        claim(not any(values_at(equations, zero)), "zero of the made job", job, zero)
+    if job.kind != "poly":
+        p = fraction_point(dice, start)
+        claim(values_at(equations, p) == formulas(job, p), "kinds", job, p)
+        tried["kinds: points of linear and eigen jobs"] += 1
+    try_nesting(job, tried)
+    for number, (X, K, verdict, box) in enumerate(arithmetic.trace(job)):
+        if number < 12:
+            for _ in range(4):
+                p = fraction_point(dice, X)
+                claim(inside(newton(job, equations, p), K), "newton", job, X, K, p)
+                tried["newton: points"] += 1
+        if verdict == "unique":
+            try_unique(dice, job, equations, X, zeros, tried)
+    result = arithmetic.run(job)
+    tried[f"jobs with verdict {result.verdict}"] += 1
+    held = [zero for zero in zeros if inside(zero, start)]
+    for zero in held:
+        claim(result.verdict != "none" and inside(zero, list(zip(result.lo, result.hi))),
+              "zeros never lost", job, zero)
+        tried[f"zeros: kept by a run that is {result.verdict}"] += 1
+    if len(held) > 1:
+        tried["zeros: starting boxes with two or more"] += 1
+
+
+def try_claims(seed, count):
+    """count jobs, half of them with known zeros; how often each claim was tried.
+    Raises Breach at the first claim that does not hold."""
+    dice, tried = Dice(seed), Counter()
+    for number in range(count):
+        job, zeros = job_with_zeros(dice) if number % 2 else (random_job(dice), [])
+        claim(read_job(job_text(job)) == job, "accepted", job)
+        try_job(dice, job, zeros, tried)
+    return tried
+
+
+def main():
+    """The command line."""
+    parser = argparse.ArgumentParser()
+    parser.add_argument("--seed", type=int, default=1)
+    parser.add_argument("--count", type=int, default=1_000)
+    given = parser.parse_args()
+    for name, times in sorted(try_claims(given.seed, given.count).items()):
+        print(f"{times:7} {name}")
+    print("no breach")
+
+
+if __name__ == "__main__":
+    main()

@@ -1,0 +1,106 @@
+"""Accepted jobs whose zeros are known as fraction points.
+
+A zero has the value u/d in each unknown, that is 65,536 u/d marks, mostly no
+whole number of marks.
+"""
+
+from fractions import Fraction
+from itertools import product as every
+
+from arithmetic import (Job, MARK, MAX_END, MAX_ENTRY, MAX_N, MAX_TERMS, equations_of,
+                        unit)
+from jobs import allowance, choose_inverse, clip, interval, job_number
+
+
+def times(one, other):
+    """The product of two polynomials (exponents to coefficient)."""
+    found = {}
+    for (e, c), (f, d) in every(one.items(), other.items()):
+        g = tuple(map(sum, zip(e, f)))
+        found[g] = found.get(g, 0) + c * d
+    return found
+
+
+def plus(one, other):
+    """The sum of two polynomials."""
+    return {e: one.get(e, 0) + other.get(e, 0) for e in {**one, **other}}
+
+
+def poly_with_zeros(dice, n):
+    """Equations i: a part that is 0 where unknown i has one of its values, and
+    further parts of the same sort.  Returns lines and all choices of values."""
+    d = dice.pick([1, 2, 3, 5, 7, 12])
+    values = [[Fraction(dice.around(4 * d), d) for _ in range(dice.pick([1, 1, 2]))]
+              for _ in range(n)]
+
+    def vanishing(j):
+        part = {(0,) * n: 1}
+        for v in values[j]:
+            part = times(part, {unit(n, j): v.denominator, unit(n): -v.numerator})
+        return part
+
+    lines = []
+    for i in range(n):
+        scale = dice.pick([1, -1]) * dice.between(MARK // 8, 2 * MARK)
+        found = times({unit(n): scale // d}, vanishing(i))
+        for _ in range(dice.below(4)):
+            j, k = dice.below(n), dice.below(n)
+            factor = {unit(n, *[k] * dice.below(4 - len(values[j]))): dice.around(900)}
+            found = plus(found, times(factor, vanishing(j)))
+        line = [(c, e) for e, c in sorted(found.items(), reverse=True) if c]
+        if len(line) > MAX_TERMS or any(abs(c) > MAX_ENTRY for c, _ in line):
+            return poly_with_zeros(dice, n)
+        lines.append(line)
+    return lines, [list(zero) for zero in every(*values)]
+
+
+def linear_with_zero(dice, n):
+    """a(i,j) = d r(i,j) and b(i) = the sum of r(i,j) u(j): the zero is u/d."""
+    d = dice.between(1, 13)
+    u = [dice.around(3 * d) for _ in range(n)]
+    r = [[dice.around(MARK // 8) + (i == j) * dice.pick([1, -1]) * MARK // d
+          for j in range(n)] for i in range(n)]
+    lines = [[d * v for v in row] + [sum(v * w for v, w in zip(row, u))] for row in r]
+    return lines, [[Fraction(v, d) for v in u]]
+
+
+def eigen_with_zero(dice, n):
+    """The vector u/d and 1, and an eigenvalue of whole marks: a(i,j) is a multiple
+    of d, for i = j the eigenvalue and a multiple of d, so a(i,n) is whole."""
+    d = dice.between(1, 13)
+    u = [dice.around(3 * d) for _ in range(n - 1)]
+    eigenvalue = dice.around(3 * MARK)
+    lines = []
+    for i in range(n):
+        row = [d * dice.around(4 * MARK // d) + (eigenvalue if i == j else 0)
+               for j in range(n - 1)]
+        wanted = eigenvalue * (u[i] if i < n - 1 else d)
+        row.append((wanted - sum(v * w for v, w in zip(row, u))) // d)
+        lines.append(row)
+    if any(abs(v) > MAX_ENTRY for row in lines for v in row):
+        return eigen_with_zero(dice, n)
+    return lines, [[Fraction(v, d) for v in u] + [Fraction(eigenvalue, MARK)]]
+
+
+def job_with_zeros(dice):
+    """An accepted job and its known zeros, in marks."""
+    kind = dice.pick(["poly", "poly", "linear", "eigen"])
+    make = {"poly": poly_with_zeros, "linear": linear_with_zero,
+            "eigen": eigen_with_zero}[kind]
+    n = dice.between(1, MAX_N)
+    lines, zeros = make(dice, n)
+    zeros = [[MARK * v for v in zero] for zero in zeros]
+    radius = dice.pick([2, 9, 100, 900, 4_000, 9_000, 30_000])
+    placing = dice.pick(["mid", "in", "in", "low", "high", "both"])
+    box = []
+    for j in range(n):
+        ends = [zero[j] for zero in zeros]
+        if placing == "both":
+            low, high = min(ends).__floor__(), max(ends).__ceil__()
+            box.append((clip(low - dice.below(radius), MAX_END),
+                        clip(high + dice.below(radius), MAX_END)))
+        else:
+            box.append(interval(dice, placing, dice.pick(zeros)[j].__floor__(), radius))
+    job = Job(job_number(dice), kind, n, [low for low, _ in box],
+              [high for _, high in box], [], allowance(dice), lines)
+    return job._replace(inv=choose_inverse(dice, equations_of(job), box)), zeros
