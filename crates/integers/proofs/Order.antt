@@ -49,6 +49,13 @@ pos-mul {a} {b} h k =
     let two : (pos 1 *ℤ b) ≤ℤ (a *ℤ b) = mul-mono-r one (nonneg k) in
     omega (zorder, simp zlin at two)
 
+-- a positive factor keeps a strict order
+pub mul-lt-r : {a b c : ℤ} → a <ℤ b → pos 0 <ℤ c → (a *ℤ c) <ℤ (b *ℤ c)
+mul-lt-r {a} {b} {c} h k =
+    let less : pos 0 <ℤ (b -ℤ a) = simp zlin (omega zorder) in
+    let e : b *ℤ c ≡ a *ℤ c +ℤ (b -ℤ a) *ℤ c = ring (a ∷ b ∷ c ∷ []) (λ a b c. b ⊗ c) (λ a b c. a ⊗ c ⊕ (b ⊖ a) ⊗ c) refl in
+    rw e (simp zlin (omega (zorder, pos-mul less k)))
+
 -- a factor that is not positive
 pub mul-anti-r : {a b c : ℤ} → a ≤ℤ b → c ≤ℤ pos 0 → (b *ℤ c) ≤ℤ (a *ℤ c)
 mul-anti-r {a} {b} {c} h k = le-by (ring (a ∷ b ∷ c ∷ []) (λ a b c. a ⊗ c ⊖ b ⊗ c) (λ a b c. (b ⊖ a) ⊗ (lit (pos 0) ⊖ c)) refl) (nonneg-mul (diff-nonneg h) (diff-nonneg k))

@@ -9,7 +9,7 @@ use Rattle.integers.proofs.Commutative.{*ℤ-distrib-r, *ℤ-assoc, neg-*ℤ}
 use Rattle.integers.proofs.Parts.{zorder}
 use Rattle.integers.proofs.Linear.{zlin}
 use Rattle.integers.proofs.Ring.{lit, _⊕_, _⊗_, ring}
-use Rattle.integers.proofs.Order.{mul-mono-l, mul-mono-r, above-l, above-r, below-l, below-r, nonneg, pos-mul}
+use Rattle.integers.proofs.Order.{cancel-r, mul-mono-l, mul-mono-r, above-l, above-r, below-l, below-r, nonneg, pos-mul}
 use Rattle.integers.specs.Least.{min4, max4}
 use Rattle.integers.proofs.Least.{min4-1, min4-2, min4-3, min4-4, max4-1, max4-2, max4-3, max4-4}
 use Rattle.integers.specs.Sums.{sumTo}
@@ -36,6 +36,24 @@ hold-raise {u} {U} {W} {A} h w = record {
   low = rw (← *ℤ-assoc (A .lo) U W) (mul-mono-r (h .low) (nonneg w));
   high = rw (← *ℤ-assoc (A .hi) U W) (mul-mono-r (h .high) (nonneg w));
 }
+
+-- and with a common factor taken away
+pub hold-cancel : {u U W : ℤ} {A : Interval} → pos 0 <ℤ U → pos 0 <ℤ W → In (u *ℤ W) (U *ℤ W) A → In u U A
+hold-cancel {u} {U} {W} {A} p w h = record {
+  den = p;
+  low = cancel-r (A .lo *ℤ U) u W w (rw (*ℤ-assoc (A .lo) U W) (h .low));
+  high = cancel-r u (A .hi *ℤ U) W w (rw (*ℤ-assoc (A .hi) U W) (h .high));
+}
+
+-- an interval that holds something is not empty, and holds its ends
+pub hold-order : {u U : ℤ} {A : Interval} → In u U A → A .lo ≤ℤ A .hi
+hold-order {u} {U} {A} h = cancel-r (A .lo) (A .hi) U (h .den) (omega (zorder, h .low, h .high))
+
+pub hold-low : (A : Interval) → A .lo ≤ℤ A .hi → In (A .lo) (pos 1) A
+hold-low A h = record { den = omega zorder; low = simp zlin (omega zorder); high = simp zlin (omega zorder) }
+
+pub hold-high : (A : Interval) → A .lo ≤ℤ A .hi → In (A .hi) (pos 1) A
+hold-high A h = record { den = omega zorder; low = simp zlin (omega zorder); high = simp zlin (omega zorder) }
 
 -- what lies in an interval lies in every interval around it
 pub hold-inside : {u U : ℤ} {A B : Interval} → In u U A → Inside A B → In u U B

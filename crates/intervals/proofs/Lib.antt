@@ -2,8 +2,8 @@ pub mod Ends
 pub mod Division
 pub mod Rounding
 pub mod Sums
+pub mod Meeting
 pub mod Ranges
 pub mod Hold
 pub mod Inclusion
-pub mod Examples
 pub mod Places

@@ -6,23 +6,23 @@ use native.Mathlib.Omega.{arith}
 use native.Mathlib.Nat.{le-refl, le-trans, suc-mul}
 use lib.Dec.{lt→ltb}
 use lib.IntN.{ℤ, pos, _+ℤ_}
-use lib.Signed.{_≤ℤ_, leZ}
+use lib.Signed.{_≤ℤ_}
 use mir.Syntax.{w64}
 use mir.Val.{SFits}
 use Rattle.integers.proofs.Parts.{zorder}
 use Rattle.integers.proofs.Linear.{zlin}
 use Rattle.integers.specs.Ranges.{Within}
 use Rattle.integers.proofs.Ranges.{fits, within-add, within-neg, within-mul, within-mid}
-use Rattle.integers.specs.Least.{minℤ, maxℤ, min4, max4}
-use Rattle.integers.proofs.Least.{min-l, min-both, max-l, max-both, min4-1, max4-1, min4-within, max4-within}
-use Rattle.integers.proofs.Order.{mul-mono-l, leZ-true}
+use Rattle.integers.specs.Least.{min4, max4}
+use Rattle.integers.proofs.Least.{min4-1, max4-1, min4-within, max4-within}
+use Rattle.integers.proofs.Order.{mul-mono-l}
 use Rattle.integers.proofs.Rounding.{floor-mono, floor≤ceil, floor-within, ceil-within, mid-lo, mid-hi}
 use Rattle.lists.specs.Loops.{carry}
-use Rattle.lists.proofs.All.{both-fst, both-snd}
 use Rattle.intervals.specs.declared.Interval.{Interval}
 use Rattle.intervals.specs.Interval.{mark, zeroI, pointI, addI, negI, sumI, scaleI, wideI, outI, mulI, midI, cutI, meetsI}
 use Rattle.intervals.specs.Ranges.{FitsAdd, FitsNeg, FitsScale, FitsMid, FitsMul, InI}
 use Rattle.intervals.proofs.Division.{some}
+use Rattle.intervals.proofs.Meeting.{cut-inside, cut-order}
 
 pub in-zero : {B : ℕ} → InI B zeroI
 in-zero = record { order = omega zorder; low = record { abs = zero-le }; high = record { abs = zero-le } }
@@ -86,23 +86,14 @@ in-mid {a = a} h = within-mid (h .low) (h .high) (mid-lo (a .lo) (a .hi) (h .ord
 
 -- an interval cut by one that it meets
 pub in-cut : {B : ℕ} {x k : Interval} → InI B x → k .lo ≤ℤ k .hi → meetsI x k ≡ true → InI B (cutI x k)
-unfolding cutI meetsI
-in-cut {x = x} {k = k} h l m = record {
-  order = order;
-  low = within-mid (h .low) (h .high) (max-l (x .lo) (k .lo)) (omega (zorder, order, min-l (x .hi) (k .hi)));
-  high = within-mid (h .low) (h .high) (omega (zorder, order, max-l (x .lo) (k .lo))) (min-l (x .hi) (k .hi));
-}
-  where
-    kx : k .lo ≤ℤ x .hi
-    kx = leZ-true (k .lo) (x .hi) (both-fst (leZ (k .lo) (x .hi)) (leZ (x .lo) (k .hi)) m)
-
-    xk : x .lo ≤ℤ k .hi
-    xk = leZ-true (x .lo) (k .hi) (both-snd (leZ (k .lo) (x .hi)) (leZ (x .lo) (k .hi)) m)
-
-    order : maxℤ (x .lo) (k .lo) ≤ℤ minℤ (x .hi) (k .hi)
-    order = max-both (λ z. z ≤ℤ minℤ (x .hi) (k .hi)) (x .lo) (k .lo)
-        (min-both (λ z. x .lo ≤ℤ z) (x .hi) (k .hi) (h .order) xk)
-        (min-both (λ z. k .lo ≤ℤ z) (x .hi) (k .hi) kx l)
+in-cut {x = x} {k = k} h l m =
+    let order = cut-order x k (h .order) l m in
+    let inside = cut-inside x k in
+    record {
+      order = order;
+      low = within-mid (h .low) (h .high) (inside .low) (omega (zorder, order, inside .high));
+      high = within-mid (h .low) (h .high) (omega (zorder, order, inside .low)) (inside .high);
+    }
 
 -- a number with a bound below 2 ^ 63 fits
 small : {z : ℤ} {B : ℕ} → B < 2 ^ 63 → Within z B → SFits w64 z

@@ -1,4 +1,4 @@
--- A system's answers: zeros in the box of each step and of "none" and "unique", and what the step that says "unique" does.
+-- A system's answers: which stay, the steps that a run begins, the zeros in the box of each step and answer, and the step that says "unique".
 use mathlib.Core.Path.{_≡_, sym, ap, _∙_}
 use mathlib.Core.List.{List}
 use mathlib.Core.Logic.{⊎-elim}
@@ -14,7 +14,7 @@ use Rattle.promises.proofs.Points.{same-zero, closer}
 use Rattle.promises.proofs.Runs.{zero-one, spent-or, more, whole-spent, run-count, run-stays, run-keeps, run-ordered, Deciding, deciding}
 
 module _ (s : System) where
-  -- a verdict v other than "spent" stays, for a larger allowance
+  -- a verdict v other than "spent" stays, for a larger allowance (`cc` shows that v is another one, as an equation that never holds)
   pub answer-stays : {a b : ℕ} {v : Verdict} → a ≤ b → runWith s a .verdict ≡ v → (v ≡ Verdict.Spent → _≡_ {A = ℕ} 0 1) → runWith s b ≡ runWith s a
   answer-stays {a} {b} l says other =
       rw (more l) (run-stays (s .n) (s .equations) (s .inverse) a (b - a) 0 (s .start) (λ spent. zero-one (other (sym says ∙ spent))))

@@ -21,7 +21,7 @@ use Rattle.integers.proofs.Absolute.{abs-nonneg, abs-pos, abs-neg, abs-none, ab
 use Rattle.integers.proofs.Sums.{sum-cong, sum-sub, sum-mul, sum-mul-r, sum-le}
 use Rattle.intervals.specs.Interval.{mark, addI, negI}
 use Rattle.intervals.specs.Fraction.{In}
-use Rattle.intervals.proofs.Hold.{hold-point, hold-add, hold-neg}
+use Rattle.intervals.proofs.Hold.{hold-point, hold-add, hold-neg, hold-order, hold-low, hold-high}
 use Rattle.matrices.specs.Products.{bOf, eOf}
 use Rattle.matrices.proofs.Hold.{hold-e}
 use Rattle.systems.specs.Fractions.{InBox, unitsOf, power, DegreesIn, equationNum}
@@ -29,7 +29,7 @@ use Rattle.systems.proofs.Factors.{power-pos, units-pos}
 use Rattle.run.specs.Step.{middleOf, offsetOf, slopeOf, imageOf}
 use Rattle.run.specs.Newton.{newtonScale, newtonNum}
 use Rattle.run.proofs.Newton.{scale-pos, quotientNum, newton-diff, zero-newton}
-use Rattle.run.proofs.Hold.{hold-order, hold-middle, hold-quotient, middle-in, image-holds}
+use Rattle.run.proofs.Hold.{hold-middle, hold-quotient, middle-in, image-holds}
 use Rattle.run.proofs.Decisions.{Strictly}
 use Rattle.intervals.specs.declared.Interval.{Interval}
 use Rattle.jobs.specs.declared.Equation.{Equation}
@@ -59,12 +59,6 @@ ends-apart x a b = by (leZ (pos 0) x) refl
     by : (t : Bool) → leZ (pos 0) x ≡ t → x *ℤ cond t b a -ℤ x *ℤ cond t a b ≡ absℤ x *ℤ (b -ℤ a)
     by true e = rw (abs-pos x (leZ-true (pos 0) x e)) (ring (x ∷ a ∷ b ∷ []) (λ x a b. x ⊗ b ⊖ x ⊗ a) (λ x a b. x ⊗ (b ⊖ a)) refl)
     by false e = rw (abs-neg x (leZ-false (pos 0) x e)) (ring (x ∷ a ∷ b ∷ []) (λ x a b. x ⊗ a ⊖ x ⊗ b) (λ x a b. neg x ⊗ (b ⊖ a)) refl)
-
-low-in : (A : Interval) → A .lo ≤ℤ A .hi → In (A .lo) (pos 1) A
-low-in A h = record { den = omega zorder; low = simp zlin (omega zorder); high = simp zlin (omega zorder) }
-
-high-in : (A : Interval) → A .lo ≤ℤ A .hi → In (A .hi) (pos 1) A
-high-in A h = record { den = omega zorder; low = simp zlin (omega zorder); high = simp zlin (omega zorder) }
 
 -- how far two points over one denominator are apart
 abbrev pub gap : (ℕ → ℤ) → (ℕ → ℤ) → ℕ → ℤ
@@ -98,8 +92,8 @@ module _ (n : ℕ) (q : ℕ → Equation) (C : ℕ → ℕ → ℤ) (X : ℕ →
 
       ends : (j : ℕ) → j < n → In (great j) (pos 1) (offsetOf X j) × In (least j) (pos 1) (offsetOf X j)
       ends j l =
-          ends-in (B j) (hold-add (low-in (X j) (order j l)) (hold-neg (hold-point (middleOf X j))))
-          (hold-add (high-in (X j) (order j l)) (hold-neg (hold-point (middleOf X j))))
+          ends-in (B j) (hold-add (hold-low (X j) (order j l)) (hold-neg (hold-point (middleOf X j))))
+          (hold-add (hold-high (X j) (order j l)) (hold-neg (hold-point (middleOf X j))))
 
       up : In (sumTo n (λ j. B j *ℤ great j)) (((W *ℤ pos mark) *ℤ pos 1) *ℤ pos mark) (E i)
       up =

@@ -6,6 +6,7 @@ use mathlib.Core.Logic.{_↔_}
 use Prim.Native.Nat.{ℕ, _+_, _≤_, _<_}
 use lib.IntN.{pos}
 use lib.Signed.{_<ℤ_}
+use Rattle.sizes.specs.Sizes.{stepsMax}
 use Rattle.intervals.specs.declared.Interval.{Interval}
 use Rattle.jobs.specs.declared.Kind.{Kind}
 use Rattle.jobs.specs.declared.Job.{Job}
@@ -16,10 +17,11 @@ use Rattle.jobs.specs.Accepted.{Accepted}
 use Rattle.jobs.proofs.AcceptedLaws.{check-done}
 use Rattle.systems.specs.Kinds.{equationOf}
 use Rattle.run.specs.Run.{outcome, settle, stepOf, imageBox}
-use Rattle.run.specs.Job.{startOf, inverseOf}
+use Rattle.run.specs.Job.{startOf, inverseOf, resultOf, runJob}
 use Rattle.promises.specs.Claims.{Point, Lies, Same, newtonOf, BoxInside, System, Begins, UniqueStep}
-use Rattle.promises.specs.Jobs.{jobRun, Solves, SolvesLinear, Eigenpair}
+use Rattle.promises.specs.Jobs.{allow, jobRun, Solves, SolvesLinear, Eigenpair}
 use Rattle.promises.proofs.Jobs.{systemOf, solves-zero}
+use Rattle.promises.proofs.Entry.{entry-runs}
 use Rattle.promises.proofs.Jobs as jobs
 use Rattle.promises.proofs.Promises as promises
 
@@ -29,6 +31,10 @@ module _ (j : Job) (checked : checkJob j ≡ Status.Done) where
 
   abbrev s : System
   s = systemOf j accepted
+
+  -- The run that the promises are about is the public entry's: handed the job with an allowance that it accepts, it answers `jobRun` with that allowance.
+  pub entry : (a : ℕ) → a ≤ stepsMax → runJob (allow a j) ≡ record { status = Status.Done; result = resultOf j (jobRun j a) }
+  entry = entry-runs j accepted
 
   -- "More steps never unsay an answer. Take one accepted job with two step allowances. The larger allowance's box lies in the smaller's,"
   pub larger-inside : {a b : ℕ} → a ≤ b → BoxInside (j .n) (jobRun j b .sides) (jobRun j a .sides)

@@ -55,13 +55,13 @@ unfolding checkJob headLines bodyLines numberLine unknownsLine goodUnknowns lowL
     sidedLine rowLine refusedUnless andThen allWithin isWithin allOrdered allB
 accepted = refl
 
--- "unique, 1, [32768,32768] and [16384,16384]"
+-- "unique, 1"
 pub answer : jobRun job11 1 .verdict ≡ Verdict.Unique
 unfolding startOf runOf stepOf imageBox imageOf decideOf allMeet allInside allB meetsI insideI dOf bOf entryB eOf dotI unitZ sumI carry addI negI scaleI wideI outI mulI midI
     floorBy ceilBy minℤ maxℤ equationOver slopeOver termSlope termOver factorI lowered equationOf linearEquation unitE tab
 answer = refl
 
--- (32768, 16384) over 1
+-- "[32768,32768] and [16384,16384]": the point (32768, 16384) over 1
 abbrev point11 : Point
 point11 = record { num = λ k. getD (pos 32768 ∷ pos 16384 ∷ []) k (pos 0); den = pos 1 }
 

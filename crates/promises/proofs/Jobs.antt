@@ -20,7 +20,7 @@ use Rattle.systems.specs.Formulas.{linearNum, coordinate, eigenNum, formulaNum}
 use Rattle.systems.proofs.Factors.{power-pos, units-pos}
 use Rattle.intervals.specs.Interval.{mark}
 use Rattle.systems.proofs.Formulas.{equation-is, equation-degrees}
-use Rattle.run.specs.Job.{startOf, inverseOf}
+use Rattle.run.specs.Job.{startSide, startOf, inverseOf}
 use Rattle.jobs.specs.declared.Kind.{Kind}
 use Rattle.jobs.specs.declared.Job.{Job}
 use Rattle.promises.specs.Claims.{Point, Zero, Ordered, System}
@@ -32,7 +32,7 @@ module _ (j : Job) (a : Accepted j) where
 
   pub start-order : Ordered (j .n) (sideAt (startOf j))
   unfolding startOf
-  start-order k l = rw (side-made (j .n) (a .few) (λ k. record { lo = numberAt (j .lo) k; hi = numberAt (j .hi) k }) refl k l) (a .ordered k l)
+  start-order k l = rw (side-made (j .n) (a .few) (startSide j) refl k l) (a .ordered k l)
 
   abbrev pub systemOf : System
   systemOf = record {

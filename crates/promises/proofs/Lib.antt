@@ -6,5 +6,6 @@ pub mod Runs
 pub mod Answers
 pub mod Promises
 pub mod Jobs
+pub mod Entry
 pub mod Demand3
 pub mod Examples

@@ -2,14 +2,12 @@
 use mathlib.Core.Path.{_≡_, refl, ap, _∙_}
 use mathlib.Core.List.{List, [], _∷_}
 use Prim.Native.Nat.{ℕ, _<_}
-use lib.IntN.{ℤ, pos, _+ℤ_, _-ℤ_, _*ℤ_, *ℤ-comm}
+use lib.IntN.{ℤ, _-ℤ_, _*ℤ_, *ℤ-comm}
 use lib.Signed.{_<ℤ_}
 use Rattle.sizes.specs.Sizes.{degreeMax}
 use Rattle.integers.specs.Absolute.{absℤ}
-use Rattle.integers.proofs.Parts.{zorder}
-use Rattle.integers.proofs.Linear.{zlin}
-use Rattle.integers.proofs.Ring.{_⊕_, _⊖_, _⊗_, ring}
-use Rattle.integers.proofs.Order.{nonneg, pos-mul}
+use Rattle.integers.proofs.Ring.{_⊖_, _⊗_, ring}
+use Rattle.integers.proofs.Order.{mul-lt-r, nonneg, pos-mul}
 use Rattle.integers.proofs.Absolute.{abs-pos, abs-mul}
 use Rattle.intervals.specs.Places.{sideAt}
 use Rattle.systems.specs.Fractions.{InBox, power, DegreesIn}
@@ -21,12 +19,6 @@ use Rattle.jobs.specs.declared.Equation.{Equation}
 use Rattle.promises.specs.Claims.{Ordered, Point, Lies, Same, Zero, newtonOf, apart, widthOf, Largest, Closer}
 use Rattle.promises.proofs.Contraction.{gap, farthest, contraction, one-zero}
 use Rattle.promises.proofs.Scale.{times, power-mul, box-scale, zero-scale, newton-scale, fixedDen, fixed-pos, den-fixed}
-
-mul-lt : {a b c : ℤ} → a <ℤ b → pos 0 <ℤ c → (a *ℤ c) <ℤ (b *ℤ c)
-mul-lt {a} {b} {c} h p =
-    let less : pos 0 <ℤ (b -ℤ a) = simp zlin (omega zorder) in
-    let e : b *ℤ c ≡ a *ℤ c +ℤ (b -ℤ a) *ℤ c = ring (a ∷ b ∷ c ∷ []) (λ a b c. b ⊗ c) (λ a b c. a ⊗ c ⊕ (b ⊖ a) ⊗ c) refl in
-    rw e (simp zlin (omega (zorder, pos-mul less p)))
 
 module _ (n : ℕ) (q : ℕ → Equation) (C : ℕ → ℕ → ℤ) (x : List Interval) (degrees : (k : ℕ) → k < n → DegreesIn n (q k))
     (order : Ordered n (sideAt x)) (strictly : Strictly n (sideAt x) (imageOf n q C (sideAt x)))
@@ -89,7 +81,7 @@ module _ (n : ℕ) (q : ℕ → Equation) (C : ℕ → ℕ → ℤ) (x : List In
 
       smaller : (i : ℕ) → i < n
           → ((apart (newtonOf n q C p) (newtonOf n q C r) i *ℤ w (far .place)) *ℤ (d *ℤ e)) <ℤ ((apart p r (far .place) *ℤ w i) *ℤ (newtonDen d *ℤ newtonDen e))
-      smaller i l = rw (images-gap i, less, more) (mul-lt (over i l) (pos-mul fixed-pos (left .den)))
+      smaller i l = rw (images-gap i, less, more) (mul-lt-r (over i l) (pos-mul fixed-pos (left .den)))
         where
           A : ℤ
           A = apart p r (far .place)

@@ -12,6 +12,8 @@ use Rattle.sizes.specs.Sizes.{nMax}
 use Rattle.integers.proofs.Parts.{zorder}
 use Rattle.intervals.specs.declared.Interval.{Interval}
 use Rattle.intervals.specs.Places.{sideAt}
+use Rattle.intervals.proofs.Hold.{hold-order}
+use Rattle.intervals.proofs.Meeting.{hold-cut}
 use Rattle.intervals.proofs.Inclusion.{inside-trans}
 use Rattle.jobs.specs.declared.Equation.{Equation}
 use Rattle.jobs.specs.declared.Verdict.{Verdict}
@@ -21,8 +23,8 @@ use Rattle.run.specs.Step.{imageOf}
 use Rattle.run.specs.Newton.{newtonDen, newtonNum}
 use Rattle.run.specs.Decide.{allMeet, cutBox, decideOf}
 use Rattle.run.specs.Run.{outcome, settle, imageBox, stepOf, runOf}
-use Rattle.run.proofs.Hold.{hold-order, middle-in, image-holds, image-keeps, image-at}
-use Rattle.run.proofs.Decisions.{Strictly, Decided, none, unique, stalled, next, decided, all-meet, hold-cut, cut-at, cut-inside, cut-ordered}
+use Rattle.run.proofs.Hold.{middle-in, image-holds, image-keeps, image-at}
+use Rattle.run.proofs.Decisions.{Strictly, Decided, none, unique, stalled, next, decided, all-meet, cut-at, cut-inside, cut-ordered}
 use Rattle.promises.specs.Claims.{Ordered, BoxInside}
 
 pub zero-one : _≡_ {A = ℕ} 0 1 → ⊥

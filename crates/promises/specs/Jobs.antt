@@ -14,6 +14,21 @@ use Rattle.jobs.specs.declared.Job.{Job}
 use Rattle.run.specs.declared.Outcome.{Outcome}
 use Rattle.promises.specs.Claims.{Point}
 
+-- the job with another step allowance
+abbrev pub allow : ℕ → Job → Job
+allow allowance j = record {
+  number = j .number;
+  kind = j .kind;
+  n = j .n;
+  lo = j .lo;
+  hi = j .hi;
+  inv = j .inv;
+  steps = allowance;
+  eqs = j .eqs;
+  rows = j .rows;
+  right = j .right;
+}
+
 -- the job's run with an allowance
 abbrev pub jobRun : Job → ℕ → Outcome
 jobRun j allowance = runOf (j .n) (equationOf j) (inverseOf j) allowance 0 (startOf j)

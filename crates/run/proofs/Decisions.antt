@@ -1,53 +1,24 @@
--- What each decision says of the box X and its image K, and that the box of a decision lies in X.
+-- What each decision says of the box X and its image K, and the cut of the two, place by place.
 use mathlib.Core.Path.{_≡_, refl}
 use mathlib.Core.Bool.{Bool, true, false}
 use mathlib.Core.List.{List}
 use Prim.Native.Nat.{ℕ, _≤_, _<_}
-use lib.IntN.{ℤ, _*ℤ_}
-use lib.Signed.{_≤ℤ_, _<ℤ_, leZ, ltZ}
+use lib.IntN.{ℤ}
+use lib.Signed.{_≤ℤ_, _<ℤ_, ltZ}
 use Rattle.sizes.specs.Sizes.{nMax}
 use Rattle.lists.proofs.All.{all-each, both-fst, both-snd}
-use Rattle.integers.proofs.Parts.{zorder}
-use Rattle.integers.specs.Least.{minℤ}
-use Rattle.integers.proofs.Least.{max-l, min-l, max-both, min-both}
-use Rattle.integers.proofs.Order.{leZ-true, ltZ-true, le-leZ, cancel-r}
+use Rattle.integers.proofs.Order.{ltZ-true}
 use Rattle.intervals.specs.Interval.{meetsI, insideI, cutI}
 use Rattle.intervals.specs.Places.{sideAt}
 use Rattle.intervals.specs.Fraction.{In, Inside}
 use Rattle.intervals.proofs.Places.{side-made}
+use Rattle.intervals.proofs.Meeting.{cut-order, hold-meets}
 use Rattle.jobs.proofs.RangeLaws.{each-all}
 use Rattle.intervals.specs.declared.Interval.{Interval}
 use Rattle.run.specs.declared.Move.{Move}
 use Rattle.run.specs.Decide.{allMeet, allInside, allSame, cutBox, decision, decideOf}
+use Rattle.intervals.proofs.Meeting as intervals
 
--- ---- two intervals
--- a fraction in both is in the cut, and they meet
-pub hold-cut : {u U : ℤ} {A B : Interval} → In u U A → In u U B → In u U (cutI A B)
-unfolding cutI
-hold-cut {u} {U} {A} {B} h k = record {
-  den = h .den;
-  low = max-both (λ z. (z *ℤ U) ≤ℤ u) (A .lo) (B .lo) (h .low) (k .low);
-  high = min-both (λ z. u ≤ℤ (z *ℤ U)) (A .hi) (B .hi) (h .high) (k .high);
-}
-
-hold-meets : {u U : ℤ} {A B : Interval} → In u U A → In u U B → meetsI A B ≡ true
-unfolding meetsI
-hold-meets {u} {U} {A} {B} h k = rw (le-leZ (B .lo) (A .hi) below, le-leZ (A .lo) (B .hi) above)
-  where
-    below : B .lo ≤ℤ A .hi
-    below = cancel-r (B .lo) (A .hi) U (h .den) (omega (zorder, h .high, k .low))
-
-    above : A .lo ≤ℤ B .hi
-    above = cancel-r (A .lo) (B .hi) U (h .den) (omega (zorder, h .low, k .high))
-
-cut-order : {A B : Interval} → A .lo ≤ℤ A .hi → B .lo ≤ℤ B .hi → meetsI A B ≡ true → cutI A B .lo ≤ℤ cutI A B .hi
-unfolding cutI meetsI
-cut-order {A} {B} a b e =
-    max-both (λ z. z ≤ℤ minℤ (A .hi) (B .hi)) (A .lo) (B .lo)
-    (min-both (λ z. A .lo ≤ℤ z) (A .hi) (B .hi) a (leZ-true _ _ (both-snd (leZ (B .lo) (A .hi)) _ e)))
-    (min-both (λ z. B .lo ≤ℤ z) (A .hi) (B .hi) (leZ-true _ _ (both-fst (leZ (B .lo) (A .hi)) _ e)) b)
-
--- ---- two boxes
 -- "X low < K low and K high < X high"
 abbrev pub Strictly : ℕ → (ℕ → Interval) → (ℕ → Interval) → Type 0
 Strictly n X K = (i : ℕ) → i < n → (X i .lo <ℤ K i .lo) × (K i .hi <ℤ X i .hi)
@@ -86,12 +57,12 @@ module _ (n : ℕ) (x k : List Interval) where
     unfolding cutBox
     cut-at i l = side-made n room (λ i. cutI (sideAt x i) (sideAt k i)) refl i l
 
-    -- "Handing back K instead of the cut box" would break it
+    -- what a step that decides nothing hands on lies in X; K itself need not
     pub cut-inside : (i : ℕ) → i < n → Inside (sideAt (cutBox n x k) i) (sideAt x i)
-    cut-inside i l = rw (cut-at i l) (unfold cutI in (record { low = max-l (sideAt x i .lo) (sideAt k i .lo); high = min-l (sideAt x i .hi) (sideAt k i .hi) }))
+    cut-inside i l = rw (cut-at i l) (intervals.cut-inside (sideAt x i) (sideAt k i))
 
     -- boxes that meet have a cut whose ends stand in order
     pub cut-ordered : allMeet n x k ≡ true → (i : ℕ) → i < n → sideAt x i .lo ≤ℤ sideAt x i .hi → sideAt k i .lo ≤ℤ sideAt k i .hi
         → sideAt (cutBox n x k) i .lo ≤ℤ sideAt (cutBox n x k) i .hi
     unfolding allMeet
-    cut-ordered e i l a b = rw (cut-at i l) (cut-order a b (all-each (λ i. meetsI (sideAt x i) (sideAt k i)) n i l e))
+    cut-ordered e i l a b = rw (cut-at i l) (cut-order _ _ a b (all-each (λ i. meetsI (sideAt x i) (sideAt k i)) n i l e))

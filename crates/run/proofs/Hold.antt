@@ -7,14 +7,13 @@ use lib.Signed.{_≤ℤ_, _<ℤ_}
 use Rattle.sizes.specs.Sizes.{nMax, degreeMax}
 use Rattle.integers.specs.Sums.{sumTo}
 use Rattle.integers.proofs.Parts.{zorder}
-use Rattle.integers.proofs.Commutative.{*ℤ-assoc}
 use Rattle.integers.proofs.Ring.{lit, neg, _⊕_, _⊖_, _⊗_, ring}
-use Rattle.integers.proofs.Order.{mul-mono-r, nonneg, pos-mul, cancel-r}
+use Rattle.integers.proofs.Order.{mul-mono-r, nonneg, pos-mul}
 use Rattle.integers.proofs.Rounding.{mid-lo, mid-hi}
 use Rattle.intervals.specs.Interval.{mark, pointI, midI}
 use Rattle.intervals.specs.Places.{sideAt}
 use Rattle.intervals.specs.Fraction.{In}
-use Rattle.intervals.proofs.Hold.{hold-const, hold-add, hold-neg}
+use Rattle.intervals.proofs.Hold.{hold-const, hold-add, hold-neg, hold-order, hold-cancel}
 use Rattle.intervals.proofs.Places.{side-made}
 use Rattle.matrices.specs.Products.{dOf, bOf, eOf}
 use Rattle.matrices.proofs.Hold.{hold-d, hold-b, hold-e}
@@ -28,18 +27,6 @@ use Rattle.run.specs.Step.{middleOf, offsetOf, valueOf, slopeOf, imageOf
 use Rattle.run.specs.Newton.{newtonScale, newtonDen, newtonNum}
 use Rattle.run.specs.Run.{imageBox}
 use Rattle.run.proofs.Newton.{scale-pos, den-pos, den-values, quotientNum, newton-diff, zero-newton}
-
--- an interval that holds something is not empty
-pub hold-order : {u U : ℤ} {A : Interval} → In u U A → A .lo ≤ℤ A .hi
-hold-order {u} {U} {A} h = cancel-r (A .lo) (A .hi) U (h .den) (omega (zorder, h .low, h .high))
-
--- a common factor taken away
-hold-cancel : {u U W : ℤ} {A : Interval} → pos 0 <ℤ U → pos 0 <ℤ W → In (u *ℤ W) (U *ℤ W) A → In u U A
-hold-cancel {u} {U} {W} {A} p w h = record {
-  den = p;
-  low = cancel-r (A .lo *ℤ U) u W w (rw (*ℤ-assoc (A .lo) U W) (h .low));
-  high = cancel-r u (A .hi *ℤ U) W w (rw (*ℤ-assoc (A .hi) U W) (h .high));
-}
 
 -- the middle of a box, as a point over d
 pub middleNum : (ℕ → Interval) → ℤ → ℕ → ℤ

@@ -33,7 +33,7 @@ use Rattle.run.specs.declared.Outcome.{Outcome}
 use Rattle.run.specs.Step.{middleOf, slopeOf, imageOf}
 use Rattle.run.specs.Decide.{decideOf}
 use Rattle.run.specs.Run.{settle, imageBox, stepOf, runOf}
-use Rattle.run.specs.Job.{startOf, inverseOf, outcomeOf, resultOf, runJob}
+use Rattle.run.specs.Job.{startSide, startOf, inverseOf, outcomeOf, resultOf, runJob}
 use Rattle.run.specs.Ranges.{StepIn}
 use Rattle.run.proofs.Live.{sum-of}
 
@@ -51,9 +51,9 @@ module _ {j : Job} (a : Accepted j) where
 
   start-in : BoxIn (j .n) (sideAt (startOf j))
   unfolding startOf
-  start-in = record { places = a .few; each = λ k l. rw (side-made (j .n) (a .few) (λ k. record { lo = numberAt (j .lo) k; hi = numberAt (j .hi) k }) refl k l) (side k l) }
+  start-in = record { places = a .few; each = λ k l. rw (side-made (j .n) (a .few) (startSide j) refl k l) (side k l) }
     where
-      side : (k : ℕ) → k < j .n → InI endMax (record { lo = numberAt (j .lo) k; hi = numberAt (j .hi) k })
+      side : (k : ℕ) → k < j .n → InI endMax (startSide j k)
       side k l = record { order = a .ordered k l; low = a .low k l; high = a .high k l }
 
 -- only the live equations and entries of the inverse count
@@ -82,7 +82,9 @@ module _ (n : ℕ) {q r : ℕ → Equation} {C D : ℕ → ℕ → ℤ}
 module _ (j : Job) (done : checkJob j ≡ Status.Done) {eqs : List Equation} {c : List (List ℤ)} {x : List Interval}
     (made-eqs : eqs ≡ equationsOf j) (made-c : c ≡ tab nMax (j .n) (replicate nMax (pos 0)) (rowAt (j .inv))) (made-x : x ≡ startOf j) where
   entry-at : (i k : ℕ) → i < j .n → entryAt c i k ≡ inverseOf j i k
-  entry-at i k l = rw made-c (ap (λ (row : List ℤ). numberAt row k) (getD-tab (replicate nMax (pos 0)) nMax (j .n) (rowAt (j .inv)) [] i l (check-done j done .few)))
+  entry-at i k l =
+      let row = getD-tab (replicate nMax (pos 0)) nMax (j .n) (rowAt (j .inv)) [] i l (check-done j done .few) in
+      rw made-c (ap (λ (row : List ℤ). numberAt row k) row)
 
   pub step-in : StepIn (j .n) (equationAt eqs) (entryAt c) (sideAt x)
   step-in = record {

@@ -39,8 +39,8 @@ module _ (n : ℕ) (q : ℕ → Equation) (C : ℕ → ℕ → ℤ) where
 
 module _ {n : ℕ} {q : ℕ → Equation} {C : ℕ → ℕ → ℤ} where
   -- the box of the next step
-  pub next-box : (x : List Interval) {k : List Interval} {d : Decision} → StepIn n q C (sideAt x) → k ≡ imageBox n q C x → d ≡ decideOf n x k → d .what ≡ Move.Next
-      → BoxIn n (sideAt (d .sides))
+  pub next-box : (x : List Interval) {k : List Interval} {d : Decision} → StepIn n q C (sideAt x)
+      → k ≡ imageBox n q C x → d ≡ decideOf n x k → d .what ≡ Move.Next → BoxIn n (sideAt (d .sides))
   unfolding imageBox
   next-box x {k} {d} h e g w = rw g (next-in x k (h .box) order (sym (ap (λ (d : Decision). d .what) g) ∙ w))
     where

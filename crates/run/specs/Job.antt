@@ -17,9 +17,12 @@ use Rattle.run.specs.declared.Outcome.{Outcome}
 use Rattle.run.specs.declared.Answer.{Answer}
 use Rattle.run.specs.Run.{runOf}
 
--- "a starting box"
+-- "a starting box": the side of unknown k, and all of them
+abbrev pub startSide : Job → ℕ → Interval
+startSide j k = record { lo = numberAt (j .lo) k; hi = numberAt (j .hi) k }
+
 unfoldable pub startOf : Job → List Interval
-startOf j = vectorOf (j .n) (λ k. record { lo = numberAt (j .lo) k; hi = numberAt (j .hi) k })
+startOf j = vectorOf (j .n) (startSide j)
 
 -- "a proposed inverse"
 abbrev pub inverseOf : Job → ℕ → ℕ → ℤ

@@ -14,7 +14,7 @@ ghost use Rattle.intervals.specs.Places.{entryAt, sideAt};
 ghost use Rattle.jobs.specs.Places.{equationAt};
 ghost use Rattle.jobs.specs.Checks.{checkJob};
 ghost use Rattle.jobs.specs.declared.Status.{Status};
-ghost use Rattle.run.specs.Run.{runOf};
+ghost use Rattle.run.specs.Run.{outcome, runOf};
 ghost use Rattle.run.specs.Job.{outcomeOf, resultOf, runJob};
 ghost use Rattle.run.specs.Ranges.{StepIn};
 
@@ -44,6 +44,16 @@ pub struct Answer {
     pub result: Result,
 }
 
+fn ended(verdict: Verdict, steps: u64, sides: [Interval; N]) -> Outcome
+    ensures { λ r. ⌜ r ≡ outcome verdict steps sides ⌝ }
+{
+    Outcome {
+        verdict: verdict,
+        steps: steps,
+        sides: sides,
+    }
+}
+
 // At most `allowance` steps from the box `start` on. Every step begun is counted, the deciding one too.
 pub fn run_steps(
     eqs: [Equation; N],
@@ -64,37 +74,13 @@ pub fn run_steps(
         let next = d.sides;
         done += 1;
         match what {
-            Move::None => {
-                return Outcome {
-                    verdict: Verdict::None,
-                    steps: done,
-                    sides: next,
-                };
-            }
-            Move::Unique => {
-                return Outcome {
-                    verdict: Verdict::Unique,
-                    steps: done,
-                    sides: next,
-                };
-            }
-            Move::Stalled => {
-                return Outcome {
-                    verdict: Verdict::Stalled,
-                    steps: done,
-                    sides: next,
-                };
-            }
-            Move::Next => {
-                x = next;
-            }
+            Move::None => return ended(Verdict::None, done, next),
+            Move::Unique => return ended(Verdict::Unique, done, next),
+            Move::Stalled => return ended(Verdict::Stalled, done, next),
+            Move::Next => x = next,
         }
     }
-    Outcome {
-        verdict: Verdict::Spent,
-        steps: done,
-        sides: x,
-    }
+    ended(Verdict::Spent, done, x)
 }
 
 // The result of a job whose values are right.

@@ -38,25 +38,35 @@ decided : (c : tie.After-decide Inv-loop μ-loop) → let s = c .before .before 
     ≡ turned (s .n) (equationAt (s .eqs)) (entryAt (s .c)) (s .allowance) (c .before .before .before .loop .done) (c .decide .result)
 decided c =
     let l = c .before .before .before .loop in
-    run-turn _ _ _ _ _ (l .x) (c .before .before .loop-test .taken) (c .before .image .ensures) (c .decide .ensures) (l .inv .1 .1)
+    let s = c .before .before .before .before .args in
+    run-turn _ _ _ (s .allowance) (l .done) (l .x) (c .before .before .loop-test .taken) (c .before .image .ensures) (c .decide .ensures) (l .inv .1 .1)
 
 enum-told : tie.Need-enum-told Inv-loop μ-loop
 enum-told c = search needs
 
+ended-requires : tie.Need-ended-requires Inv-loop μ-loop
+ended-requires c κs = search needs
+
 returns : tie.Need-returns Inv-loop μ-loop
-returns c = sym (rw (c .enum-told .given .1) at (decided (c .before .before .before)))
+returns c = c .ended .ensures ∙ sym (rw (c .before .enum-told .given .1) at (decided (c .before .before .before .before)))
 
 enum-told-2 : tie.Need-enum-told-2 Inv-loop μ-loop
 enum-told-2 c = search needs
 
+ended-requires-2 : tie.Need-ended-requires-2 Inv-loop μ-loop
+ended-requires-2 c κs = search needs
+
 returns-2 : tie.Need-returns-2 Inv-loop μ-loop
-returns-2 c = sym (rw (c .enum-told2 .given .1) at (decided (c .before .before .before)))
+returns-2 c = c .ended2 .ensures ∙ sym (rw (c .before .enum-told2 .given .1) at (decided (c .before .before .before .before)))
 
 enum-told-3 : tie.Need-enum-told-3 Inv-loop μ-loop
 enum-told-3 c = search needs
 
+ended-requires-3 : tie.Need-ended-requires-3 Inv-loop μ-loop
+ended-requires-3 c κs = search needs
+
 returns-3 : tie.Need-returns-3 Inv-loop μ-loop
-returns-3 c = sym (rw (c .enum-told3 .given .1) at (decided (c .before .before .before)))
+returns-3 c = c .ended3 .ensures ∙ sym (rw (c .before .enum-told3 .given .1) at (decided (c .before .before .before .before)))
 
 enum-told-4 : tie.Need-enum-told-4 Inv-loop μ-loop
 enum-told-4 c = search needs
@@ -73,8 +83,11 @@ loop-again c =
       (record { system = l .inv .1 .0 .system; inverse = l .inv .1 .0 .inverse; box = box }, sym (rw (c .enum-told4 .given .1) at (decided d))),
     )
 
+ended-requires-4 : tie.Need-ended-requires-4 Inv-loop μ-loop
+ended-requires-4 c κs = search needs
+
 returns-4 : tie.Need-returns-4 Inv-loop μ-loop
-returns-4 c = sym (sym (c .before .loop .inv .1 .1) ∙ run-end _ _ _ _ _ _ (c .loop-test .left))
+returns-4 c = c .ended4 .ensures ∙ sym (sym (c .before .before .loop .inv .1 .1) ∙ run-end _ _ _ _ _ _ (c .before .loop-test .left))
 
 pub run-steps-spec : {M : Type 1} → statement M
 run-steps-spec =
@@ -87,12 +100,16 @@ run-steps-spec =
     decide-requires
     add-done
     enum-told
+    ended-requires
     returns
     enum-told-2
+    ended-requires-2
     returns-2
     enum-told-3
+    ended-requires-3
     returns-3
     enum-told-4
     loop-less
     loop-again
+    ended-requires-4
     returns-4)

@@ -48,7 +48,9 @@ loop-less : tie.Need-loop-less Inv-loop μ-loop
 loop-less c = omega arith
 
 loop-again : tie.Need-loop-again Inv-loop μ-loop
-loop-again c = (omega arith, all-more _ _ (c .before .before .before .before .before .loop .inv .1) (sym (c .before .strictly-inside .ensures) ∙ not-false _ (c .if1 .left)))
+loop-again c =
+    let yes = sym (c .before .strictly-inside .ensures) ∙ not-false _ (c .if1 .left) in
+    (omega arith, all-more _ _ (c .before .before .before .before .before .loop .inv .1) yes)
 
 returns-2 : tie.Need-returns-2 Inv-loop μ-loop
 unfolding allInside

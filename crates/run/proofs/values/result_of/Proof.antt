@@ -12,7 +12,7 @@ high-ends-requires c κs = search needs
 
 returns : tie.Need-returns
 unfolding resultOf
-returns c = cc
+returns c = rw (c .before .low-ends .ensures, c .high-ends .ensures)
 
 pub result-of-spec : {M : Type 1} → statement M
 result-of-spec = tie.close (tie.spec low-ends-requires high-ends-requires returns)
