@@ -47,7 +47,8 @@ unfolding absℤ
 abs-ge-neg x = omega (zorder, abs-pn x, neg-P x, neg-N x)
 
 pub abs-add : (x y : ℤ) → absℤ (x +ℤ y) ≤ℤ (absℤ x +ℤ absℤ y)
-abs-add x y = abs-le (x +ℤ y) (absℤ x +ℤ absℤ y) (simp zlin (omega (zorder, abs-ge x, abs-ge y))) (simp zlin (omega (zorder, simp zlin at (abs-ge-neg x), simp zlin at (abs-ge-neg y))))
+abs-add x y =
+    abs-le (x +ℤ y) (absℤ x +ℤ absℤ y) (simp zlin (omega (zorder, abs-ge x, abs-ge y))) (simp zlin (omega (zorder, simp zlin at (abs-ge-neg x), simp zlin at (abs-ge-neg y))))
 
 pub abs-mul : (x y : ℤ) → absℤ (x *ℤ y) ≡ absℤ x *ℤ absℤ y
 unfolding absℤ

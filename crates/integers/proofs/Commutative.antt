@@ -16,12 +16,14 @@ pub *ℤ-distrib-r : (a b c : ℤ) → (a +ℤ b) *ℤ c ≡ a *ℤ c +ℤ b *�
   where
     up : (x : ℤ) → (a +ℤ x) *ℤ c ≡ a *ℤ c +ℤ x *ℤ c → (a +ℤ (x +ℤ pos 1)) *ℤ c ≡ a *ℤ c +ℤ (x +ℤ pos 1) *ℤ c
     up x h =
-        ap (λ (y : ℤ). (a +ℤ y) *ℤ c) (+ℤ-one x) ∙ ap (λ (y : ℤ). y *ℤ c) (+ℤ-sucℤ a x) ∙ sucℤ-*ℤ (a +ℤ x) c ∙ ap (λ (y : ℤ). y +ℤ c) h ∙ +ℤ-assoc (a *ℤ c) (x *ℤ c) c
+        ap (λ (y : ℤ). (a +ℤ y) *ℤ c) (+ℤ-one x) ∙ ap (λ (y : ℤ). y *ℤ c) (+ℤ-sucℤ a x) ∙ sucℤ-*ℤ (a +ℤ x) c ∙ ap (λ (y : ℤ). y +ℤ c) h
+        ∙ +ℤ-assoc (a *ℤ c) (x *ℤ c) c
         ∙ ap (λ (y : ℤ). a *ℤ c +ℤ y) (sym (sucℤ-*ℤ x c) ∙ ap (λ (y : ℤ). y *ℤ c) (sym (+ℤ-one x)))
 
     down : (x : ℤ) → (a +ℤ x) *ℤ c ≡ a *ℤ c +ℤ x *ℤ c → (a +ℤ (x +ℤ negℤ (pos 1))) *ℤ c ≡ a *ℤ c +ℤ (x +ℤ negℤ (pos 1)) *ℤ c
     down x h =
-        ap (λ (y : ℤ). (a +ℤ y) *ℤ c) (-ℤ-one x) ∙ ap (λ (y : ℤ). y *ℤ c) (+ℤ-predℤ a x) ∙ predℤ-*ℤ (a +ℤ x) c ∙ ap (λ (y : ℤ). y -ℤ c) h ∙ +ℤ-assoc (a *ℤ c) (x *ℤ c) (negℤ c)
+        ap (λ (y : ℤ). (a +ℤ y) *ℤ c) (-ℤ-one x) ∙ ap (λ (y : ℤ). y *ℤ c) (+ℤ-predℤ a x) ∙ predℤ-*ℤ (a +ℤ x) c ∙ ap (λ (y : ℤ). y -ℤ c) h
+        ∙ +ℤ-assoc (a *ℤ c) (x *ℤ c) (negℤ c)
         ∙ ap (λ (y : ℤ). a *ℤ c +ℤ y) (sym (predℤ-*ℤ x c) ∙ ap (λ (y : ℤ). y *ℤ c) (sym (-ℤ-one x)))
 
 pub *ℤ-distrib-l : (a b c : ℤ) → a *ℤ (b +ℤ c) ≡ a *ℤ b +ℤ a *ℤ c
@@ -58,7 +60,8 @@ pub *ℤ-assoc : (a b c : ℤ) → (a *ℤ b) *ℤ c ≡ a *ℤ (b *ℤ c)
 
     step : (x d : ℤ) → (x *ℤ b) *ℤ c ≡ x *ℤ (b *ℤ c) → (d *ℤ b) *ℤ c ≡ d *ℤ (b *ℤ c) → ((x +ℤ d) *ℤ b) *ℤ c ≡ (x +ℤ d) *ℤ (b *ℤ c)
     step x d h k =
-        ap (λ (y : ℤ). y *ℤ c) (*ℤ-distrib-r x d b) ∙ *ℤ-distrib-r (x *ℤ b) (d *ℤ b) c ∙ ap (λ (y : ℤ). y +ℤ (d *ℤ b) *ℤ c) h ∙ ap (λ (y : ℤ). x *ℤ (b *ℤ c) +ℤ y) k
+        ap (λ (y : ℤ). y *ℤ c) (*ℤ-distrib-r x d b) ∙ *ℤ-distrib-r (x *ℤ b) (d *ℤ b) c ∙ ap (λ (y : ℤ). y +ℤ (d *ℤ b) *ℤ c) h
+        ∙ ap (λ (y : ℤ). x *ℤ (b *ℤ c) +ℤ y) k
         ∙ sym (*ℤ-distrib-r x d (b *ℤ c))
 
 pub *ℤ-left-comm : (a b c : ℤ) → a *ℤ (b *ℤ c) ≡ b *ℤ (a *ℤ c)

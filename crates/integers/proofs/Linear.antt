@@ -37,10 +37,12 @@ lq-add2p a b x y u v = ((λ h. omega (arith, add-pn a b)), λ h. omega (arith, a
 pub lq-add2n : (a b : ℤ) (x y u v : ℕ) → (x + (N (a +ℤ b) + u) ≤ y + (P (a +ℤ b) + v)) ↔ (N a + (N b + (x + u)) ≤ P a + (P b + (y + v)))
 lq-add2n a b x y u v = ((λ h. omega (arith, add-pn a b)), λ h. omega (arith, add-pn a b))
 
-pub lq-add3p : (a b : ℤ) (w x y z u v : ℕ) → (w + (x + (P (a +ℤ b) + u)) ≤ y + (z + (N (a +ℤ b) + v))) ↔ (P a + (P b + (w + (x + u))) ≤ N a + (N b + (y + (z + v))))
+pub lq-add3p : (a b : ℤ) (w x y z u v : ℕ)
+    → (w + (x + (P (a +ℤ b) + u)) ≤ y + (z + (N (a +ℤ b) + v))) ↔ (P a + (P b + (w + (x + u))) ≤ N a + (N b + (y + (z + v))))
 lq-add3p a b w x y z u v = ((λ h. omega (arith, add-pn a b)), λ h. omega (arith, add-pn a b))
 
-pub lq-add3n : (a b : ℤ) (w x y z u v : ℕ) → (w + (x + (N (a +ℤ b) + u)) ≤ y + (z + (P (a +ℤ b) + v))) ↔ (N a + (N b + (w + (x + u))) ≤ P a + (P b + (y + (z + v))))
+pub lq-add3n : (a b : ℤ) (w x y z u v : ℕ)
+    → (w + (x + (N (a +ℤ b) + u)) ≤ y + (z + (P (a +ℤ b) + v))) ↔ (N a + (N b + (w + (x + u))) ≤ P a + (P b + (y + (z + v))))
 lq-add3n a b w x y z u v = ((λ h. omega (arith, add-pn a b)), λ h. omega (arith, add-pn a b))
 
 pub eq-add1p : (a b : ℤ) (u v : ℕ) → (P (a +ℤ b) + u ≡ N (a +ℤ b) + v) ↔ (P a + (P b + u) ≡ N a + (N b + v))
@@ -55,10 +57,12 @@ eq-add2p a b x y u v = ((λ h. omega (arith, add-pn a b)), λ h. omega (arith, a
 pub eq-add2n : (a b : ℤ) (x y u v : ℕ) → (x + (N (a +ℤ b) + u) ≡ y + (P (a +ℤ b) + v)) ↔ (N a + (N b + (x + u)) ≡ P a + (P b + (y + v)))
 eq-add2n a b x y u v = ((λ h. omega (arith, add-pn a b)), λ h. omega (arith, add-pn a b))
 
-pub eq-add3p : (a b : ℤ) (w x y z u v : ℕ) → (w + (x + (P (a +ℤ b) + u)) ≡ y + (z + (N (a +ℤ b) + v))) ↔ (P a + (P b + (w + (x + u))) ≡ N a + (N b + (y + (z + v))))
+pub eq-add3p : (a b : ℤ) (w x y z u v : ℕ)
+    → (w + (x + (P (a +ℤ b) + u)) ≡ y + (z + (N (a +ℤ b) + v))) ↔ (P a + (P b + (w + (x + u))) ≡ N a + (N b + (y + (z + v))))
 eq-add3p a b w x y z u v = ((λ h. omega (arith, add-pn a b)), λ h. omega (arith, add-pn a b))
 
-pub eq-add3n : (a b : ℤ) (w x y z u v : ℕ) → (w + (x + (N (a +ℤ b) + u)) ≡ y + (z + (P (a +ℤ b) + v))) ↔ (N a + (N b + (w + (x + u))) ≡ P a + (P b + (y + (z + v))))
+pub eq-add3n : (a b : ℤ) (w x y z u v : ℕ)
+    → (w + (x + (N (a +ℤ b) + u)) ≡ y + (z + (P (a +ℤ b) + v))) ↔ (N a + (N b + (w + (x + u))) ≡ P a + (P b + (y + (z + v))))
 eq-add3n a b w x y z u v = ((λ h. omega (arith, add-pn a b)), λ h. omega (arith, add-pn a b))
 
 -- a literal times x
@@ -123,4 +127,5 @@ abs-lq z B = (
   λ h. pn-abs z B (omega arith) (omega (arith, neg-P z, neg-N z)),
 )
 
-pub ruleset zlin = (le-lq, lt-lq, eq-lq, sfits-lq, abs-lq, lq-add1p, lq-add1n, lq-add2p, lq-add2n, lq-add3p, lq-add3n, eq-add1p, eq-add1n, eq-add2p, eq-add2n, eq-add3p, eq-add3n, ← +ℤ-assoc, negℤ-+ℤ, negℤ-negℤ, neg-P, neg-N, P-lit, N-lit, P-lit-r, N-lit-r, lit-add, lit-add-r, lit-neg, lit-neg-r, negsuc-l, negsuc-r)
+pub ruleset zlin =
+    (le-lq, lt-lq, eq-lq, sfits-lq, abs-lq, lq-add1p, lq-add1n, lq-add2p, lq-add2n, lq-add3p, lq-add3n, eq-add1p, eq-add1n, eq-add2p, eq-add2n, eq-add3p, eq-add3n, ← +ℤ-assoc, negℤ-+ℤ, negℤ-negℤ, neg-P, neg-N, P-lit, N-lit, P-lit-r, N-lit-r, lit-add, lit-add-r, lit-neg, lit-neg-r, negsuc-l, negsuc-r)

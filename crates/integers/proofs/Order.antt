@@ -58,10 +58,12 @@ mul-lt-r {a} {b} {c} h k =
 
 -- a factor that is not positive
 pub mul-anti-r : {a b c : ℤ} → a ≤ℤ b → c ≤ℤ pos 0 → (b *ℤ c) ≤ℤ (a *ℤ c)
-mul-anti-r {a} {b} {c} h k = le-by (ring (a ∷ b ∷ c ∷ []) (λ a b c. a ⊗ c ⊖ b ⊗ c) (λ a b c. (b ⊖ a) ⊗ (lit (pos 0) ⊖ c)) refl) (nonneg-mul (diff-nonneg h) (diff-nonneg k))
+mul-anti-r {a} {b} {c} h k =
+    le-by (ring (a ∷ b ∷ c ∷ []) (λ a b c. a ⊗ c ⊖ b ⊗ c) (λ a b c. (b ⊖ a) ⊗ (lit (pos 0) ⊖ c)) refl) (nonneg-mul (diff-nonneg h) (diff-nonneg k))
 
 pub mul-anti-l : {a b c : ℤ} → a ≤ℤ b → c ≤ℤ pos 0 → (c *ℤ b) ≤ℤ (c *ℤ a)
-mul-anti-l {a} {b} {c} h k = le-by (ring (a ∷ b ∷ c ∷ []) (λ a b c. c ⊗ a ⊖ c ⊗ b) (λ a b c. (b ⊖ a) ⊗ (lit (pos 0) ⊖ c)) refl) (nonneg-mul (diff-nonneg h) (diff-nonneg k))
+mul-anti-l {a} {b} {c} h k =
+    le-by (ring (a ∷ b ∷ c ∷ []) (λ a b c. c ⊗ a ⊖ c ⊗ b) (λ a b c. (b ⊖ a) ⊗ (lit (pos 0) ⊖ c)) refl) (nonneg-mul (diff-nonneg h) (diff-nonneg k))
 
 -- a test on two numbers, as a branch leaves it
 pub ltZ-true : (a b : ℤ) → ltZ a b ≡ true → a <ℤ b

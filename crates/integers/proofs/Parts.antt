@@ -79,7 +79,8 @@ eq-out {a} {b} t = eq-out′ a b t
 sub-pn : (a b : ℕ) → P (subℕ a b) + b ≡ N (subℕ a b) + a
 sub-pn a b = by (ltb a b) (ltb→lt a b) (nltb→le a b)
   where
-    by : (t : Bool) → (T t → a < b) → (T (not t) → b ≤ a) → P (cond t (negsuc (b - suc a)) (pos (a - b))) + b ≡ N (cond t (negsuc (b - suc a)) (pos (a - b))) + a
+    by : (t : Bool) → (T t → a < b) → (T (not t) → b ≤ a)
+        → P (cond t (negsuc (b - suc a)) (pos (a - b))) + b ≡ N (cond t (negsuc (b - suc a)) (pos (a - b))) + a
     by true f g = omega (arith, f tt)
     by false f g = omega (arith, g tt)
 

@@ -1,5 +1,6 @@
 -- A normaliser of polynomial expressions over the integers. `ring ρ e f refl` proves that e and f have the same value at ρ where their normal forms are the same.
--- A monomial is the list of its variables in rising order, a polynomial a list of terms, coefficient and monomial, in falling lexicographic order. Only the value is proved of each step; the order is what makes normal forms meet.
+-- A monomial is the list of its variables in rising order, a polynomial a list of terms, coefficient and monomial, in falling lexicographic order. Only the
+-- value is proved of each step; the order is what makes normal forms meet.
 use mathlib.Core.Path.{_≡_, refl, sym, ap, _∙_}
 use mathlib.Core.List.{List, [], _∷_}
 use lib.ListN.{length}
@@ -58,7 +59,8 @@ mcmp (i ∷ m) [] = Ordering·lt
 mcmp (i ∷ m) (j ∷ n) = elim (compare i j) [ Ordering·lt ↦ Ordering·lt | Ordering·eq ↦ mcmp m n | Ordering·gt ↦ Ordering·gt ]
 
 module _ (ρ : List ℤ) where
-  minto-val : (i : ℕ) (x : ℤ) (rec : List ℕ → List ℕ) → ((n : List ℕ) → mval ρ (rec n) ≡ x *ℤ mval ρ n) → (n : List ℕ) → mval ρ (minto i rec n) ≡ (at ρ i *ℤ x) *ℤ mval ρ n
+  minto-val : (i : ℕ) (x : ℤ) (rec : List ℕ → List ℕ) → ((n : List ℕ) → mval ρ (rec n) ≡ x *ℤ mval ρ n) → (n : List ℕ)
+      → mval ρ (minto i rec n) ≡ (at ρ i *ℤ x) *ℤ mval ρ n
   minto-val i x rec h [] = ap (λ (y : ℤ). at ρ i *ℤ y) (h []) ∙ sym (*ℤ-assoc (at ρ i) x (pos 1))
   minto-val i x rec h (j ∷ n) = go (compare i j) (minto-val i x rec h n)
     where
@@ -84,7 +86,8 @@ mcmp-eq [] (j ∷ n) t = absurd t
 mcmp-eq (i ∷ m) [] t = absurd t
 mcmp-eq (i ∷ m) (j ∷ n) t = go (compare i j) (eqb→eq i j) (mcmp-eq m n) t
   where
-    go : (o : Ordering) → (T (isEq o) → i ≡ j) → (IsEq (mcmp m n) → m ≡ n) → IsEq (elim o [ Ordering·lt ↦ Ordering·lt | Ordering·eq ↦ mcmp m n | Ordering·gt ↦ Ordering·gt ]) → i ∷ m ≡ j ∷ n
+    go : (o : Ordering) → (T (isEq o) → i ≡ j) → (IsEq (mcmp m n) → m ≡ n)
+        → IsEq (elim o [ Ordering·lt ↦ Ordering·lt | Ordering·eq ↦ mcmp m n | Ordering·gt ↦ Ordering·gt ]) → i ∷ m ≡ j ∷ n
     go Ordering·lt f g t = absurd t
     go Ordering·eq f g t = ap (λ (k : ℕ). k ∷ m) (f tt) ∙ ap (λ (l : List ℕ). j ∷ l) (g t)
     go Ordering·gt f g t = absurd t
@@ -106,7 +109,8 @@ keep (negsuc n) m p = term (negsuc n) m p
 
 abbrev pinto : ℤ → List ℕ → (Poly → Poly) → Poly → Poly
 pinto c m rec nil = term c m (rec nil)
-pinto c m rec (term d n q) = elim (mcmp m n) [ Ordering·lt ↦ term c m (rec (term d n q)) | Ordering·eq ↦ keep (c +ℤ d) n (rec q) | Ordering·gt ↦ term d n (pinto c m rec q) ]
+pinto c m rec (term d n q) =
+    elim (mcmp m n) [ Ordering·lt ↦ term c m (rec (term d n q)) | Ordering·eq ↦ keep (c +ℤ d) n (rec q) | Ordering·gt ↦ term d n (pinto c m rec q) ]
 
 abbrev padd : Poly → Poly → Poly
 padd nil q = q
@@ -134,7 +138,8 @@ module _ (ρ : List ℤ) where
   keep-val (pos (suc n)) m p = refl
   keep-val (negsuc n) m p = refl
 
-  pinto-val : (c : ℤ) (m : List ℕ) (x : ℤ) (rec : Poly → Poly) → ((q : Poly) → pval ρ (rec q) ≡ x +ℤ pval ρ q) → (q : Poly) → pval ρ (pinto c m rec q) ≡ (c *ℤ mval ρ m +ℤ x) +ℤ pval ρ q
+  pinto-val : (c : ℤ) (m : List ℕ) (x : ℤ) (rec : Poly → Poly) → ((q : Poly) → pval ρ (rec q) ≡ x +ℤ pval ρ q) → (q : Poly)
+      → pval ρ (pinto c m rec q) ≡ (c *ℤ mval ρ m +ℤ x) +ℤ pval ρ q
   pinto-val c m x rec h nil = ap (λ (y : ℤ). c *ℤ mval ρ m +ℤ y) (h nil) ∙ sym (+ℤ-assoc (c *ℤ mval ρ m) x (pos 0))
   pinto-val c m x rec h (term d n q) = go (mcmp m n) (mcmp-eq m n) (pinto-val c m x rec h q)
     where
@@ -165,7 +170,8 @@ module _ (ρ : List ℤ) where
   pmul-val : (p q : Poly) → pval ρ (pmul p q) ≡ pval ρ p *ℤ pval ρ q
   pmul-val nil q = sym (zero-*ℤ (pval ρ q))
   pmul-val (term c m p) q =
-      padd-val (pscale c m q) (pmul p q) ∙ ap (λ (y : ℤ). y +ℤ pval ρ (pmul p q)) (pscale-val c m q) ∙ ap (λ (y : ℤ). (c *ℤ mval ρ m) *ℤ pval ρ q +ℤ y) (pmul-val p q)
+      padd-val (pscale c m q) (pmul p q) ∙ ap (λ (y : ℤ). y +ℤ pval ρ (pmul p q)) (pscale-val c m q)
+      ∙ ap (λ (y : ℤ). (c *ℤ mval ρ m) *ℤ pval ρ q +ℤ y) (pmul-val p q)
       ∙ sym (*ℤ-distrib-r (c *ℤ mval ρ m) (pval ρ p) (pval ρ q))
 
   one-r : (x : ℤ) → x *ℤ pos 1 ≡ x
@@ -177,8 +183,12 @@ module _ (ρ : List ℤ) where
   pub norm-val : (e : Ex) → pval ρ (norm e) ≡ val ρ e
   norm-val (v i) = +ℤ-idr (pos 1 *ℤ (at ρ i *ℤ pos 1)) ∙ one-*ℤ (at ρ i *ℤ pos 1) ∙ one-r (at ρ i)
   norm-val (lit k) = keep-val k [] nil ∙ +ℤ-idr (k *ℤ pos 1) ∙ one-r k
-  norm-val (e ⊕ f) = padd-val (norm f) (norm e) ∙ +ℤ-comm (pval ρ (norm f)) (pval ρ (norm e)) ∙ ap (λ (y : ℤ). y +ℤ pval ρ (norm f)) (norm-val e) ∙ ap (λ (y : ℤ). val ρ e +ℤ y) (norm-val f)
-  norm-val (e ⊖ f) = padd-val (pscale (negsuc 0) [] (norm f)) (norm e) ∙ +ℤ-comm (pval ρ (pscale (negsuc 0) [] (norm f))) (pval ρ (norm e)) ∙ ap (λ (y : ℤ). y +ℤ pval ρ (pscale (negsuc 0) [] (norm f))) (norm-val e) ∙ ap (λ (y : ℤ). val ρ e +ℤ y) (minus-val (norm f) ∙ ap negℤ (norm-val f))
+  norm-val (e ⊕ f) =
+      padd-val (norm f) (norm e) ∙ +ℤ-comm (pval ρ (norm f)) (pval ρ (norm e)) ∙ ap (λ (y : ℤ). y +ℤ pval ρ (norm f)) (norm-val e)
+      ∙ ap (λ (y : ℤ). val ρ e +ℤ y) (norm-val f)
+  norm-val (e ⊖ f) =
+      padd-val (pscale (negsuc 0) [] (norm f)) (norm e) ∙ +ℤ-comm (pval ρ (pscale (negsuc 0) [] (norm f))) (pval ρ (norm e))
+      ∙ ap (λ (y : ℤ). y +ℤ pval ρ (pscale (negsuc 0) [] (norm f))) (norm-val e) ∙ ap (λ (y : ℤ). val ρ e +ℤ y) (minus-val (norm f) ∙ ap negℤ (norm-val f))
   norm-val (e ⊗ f) = pmul-val (norm e) (norm f) ∙ ap (λ (y : ℤ). y *ℤ pval ρ (norm f)) (norm-val e) ∙ ap (λ (y : ℤ). val ρ e *ℤ y) (norm-val f)
   norm-val (neg e) = minus-val (norm e) ∙ ap negℤ (norm-val e)
 

@@ -39,12 +39,13 @@ sum-cong (suc n) f g h =
 pub sum-add : (n : ℕ) (f g : ℕ → ℤ) → sumTo n (λ k. f k +ℤ g k) ≡ sumTo n f +ℤ sumTo n g
 unfolding sumTo
 sum-add zero f g = refl
-sum-add (suc n) f g = rw (sum-add n f g) (ring ((sumTo n f) ∷ (sumTo n g) ∷ (f n) ∷ (g n) ∷ []) (λ a b c d. (a ⊕ b) ⊕ (c ⊕ d)) (λ a b c d. (a ⊕ c) ⊕ (b ⊕ d)) refl)
+sum-add (suc n) f g =
+    rw (sum-add n f g) (ring (sumTo n f ∷ sumTo n g ∷ f n ∷ g n ∷ []) (λ a b c d. (a ⊕ b) ⊕ (c ⊕ d)) (λ a b c d. (a ⊕ c) ⊕ (b ⊕ d)) refl)
 
 pub sum-mul : (n : ℕ) (x : ℤ) (f : ℕ → ℤ) → sumTo n (λ k. x *ℤ f k) ≡ x *ℤ sumTo n f
 unfolding sumTo
 sum-mul zero x f = sym (*ℤ-zero x)
-sum-mul (suc n) x f = rw (sum-mul n x f) (ring (x ∷ (sumTo n f) ∷ (f n) ∷ []) (λ x a b. x ⊗ a ⊕ x ⊗ b) (λ x a b. x ⊗ (a ⊕ b)) refl)
+sum-mul (suc n) x f = rw (sum-mul n x f) (ring (x ∷ sumTo n f ∷ f n ∷ []) (λ x a b. x ⊗ a ⊕ x ⊗ b) (λ x a b. x ⊗ (a ⊕ b)) refl)
 
 pub sum-sub : (n : ℕ) (f g : ℕ → ℤ) → sumTo n (λ k. f k -ℤ g k) ≡ sumTo n f -ℤ sumTo n g
 unfolding sumTo
@@ -66,7 +67,8 @@ sum-swap zero m f = sym (sum-none m)
 sum-swap (suc n) m f = rw (sum-swap n m f) (sym (sum-add m (λ j. sumTo n (λ i. f i j)) (λ j. f n j)))
 
 -- (C S) x = C (S x), entry by entry
-pub sum-assoc : (n : ℕ) (c : ℕ → ℤ) (s : ℕ → ℕ → ℤ) (x : ℕ → ℤ) → sumTo n (λ j. sumTo n (λ k. c k *ℤ s k j) *ℤ x j) ≡ sumTo n (λ k. c k *ℤ sumTo n (λ j. s k j *ℤ x j))
+pub sum-assoc : (n : ℕ) (c : ℕ → ℤ) (s : ℕ → ℕ → ℤ) (x : ℕ → ℤ)
+    → sumTo n (λ j. sumTo n (λ k. c k *ℤ s k j) *ℤ x j) ≡ sumTo n (λ k. c k *ℤ sumTo n (λ j. s k j *ℤ x j))
 sum-assoc n c s x =
     sum-cong n (λ j. sumTo n (λ k. c k *ℤ s k j) *ℤ x j) (λ j. sumTo n (λ k. c k *ℤ (s k j *ℤ x j))) (λ j _. in-l j)
     ∙ sum-swap n n (λ j k. c k *ℤ (s k j *ℤ x j))
@@ -75,4 +77,4 @@ sum-assoc n c s x =
     in-l : (j : ℕ) → sumTo n (λ k. c k *ℤ s k j) *ℤ x j ≡ sumTo n (λ k. c k *ℤ (s k j *ℤ x j))
     in-l j =
         *ℤ-comm (sumTo n (λ k. c k *ℤ s k j)) (x j) ∙ sym (sum-mul n (x j) (λ k. c k *ℤ s k j))
-        ∙ sum-cong n (λ k. x j *ℤ (c k *ℤ s k j)) (λ k. c k *ℤ (s k j *ℤ x j)) (λ k _. ring ((x j) ∷ (c k) ∷ (s k j) ∷ []) (λ x c s. x ⊗ (c ⊗ s)) (λ x c s. c ⊗ (s ⊗ x)) refl)
+        ∙ sum-cong n (λ k. x j *ℤ (c k *ℤ s k j)) (λ k. c k *ℤ (s k j *ℤ x j)) (λ k _. ring (x j ∷ c k ∷ s k j ∷ []) (λ x c s. x ⊗ (c ⊗ s)) (λ x c s. c ⊗ (s ⊗ x)) refl)

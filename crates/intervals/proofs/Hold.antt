@@ -107,7 +107,7 @@ hold-times (suc e) f {U} {A} p h =
     }
   where
     more : (e : ℕ) (a : ℤ) → (pos (suc e) *ℤ a) *ℤ U ≡ (pos e *ℤ a) *ℤ U +ℤ a *ℤ U
-    more e a = ap (λ (x : ℤ). (x *ℤ a) *ℤ U) one ∙ ring ((pos e) ∷ a ∷ U ∷ []) (λ e a u. ((e ⊕ lit (pos 1)) ⊗ a) ⊗ u) (λ e a u. (e ⊗ a) ⊗ u ⊕ a ⊗ u) refl
+    more e a = ap (λ (x : ℤ). (x *ℤ a) *ℤ U) one ∙ ring (pos e ∷ a ∷ U ∷ []) (λ e a u. ((e ⊕ lit (pos 1)) ⊗ a) ⊗ u) (λ e a u. (e ⊗ a) ⊗ u ⊕ a ⊗ u) refl
       where
         one : pos (suc e) ≡ pos e +ℤ pos 1
         one = simp zlin (omega zorder)
@@ -148,7 +148,7 @@ hold-out {u} {U} {A} h = record {
 }
   where
     turn : (x : ℤ) → x *ℤ (U *ℤ pos mark) ≡ (pos mark *ℤ x) *ℤ U
-    turn x = ring (x ∷ U ∷ (pos mark) ∷ []) (λ x u m. x ⊗ (u ⊗ m)) (λ x u m. (m ⊗ x) ⊗ u) refl
+    turn x = ring (x ∷ U ∷ pos mark ∷ []) (λ x u m. x ⊗ (u ⊗ m)) (λ x u m. (m ⊗ x) ⊗ u) refl
 
 -- the product holds products
 pub hold-mul : {u U v W : ℤ} {A B : Interval} → In u U A → In v W B → In (u *ℤ v) ((U *ℤ W) *ℤ pos mark) (mulI A B)
