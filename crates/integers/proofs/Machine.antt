@@ -31,9 +31,6 @@ got {z} h e = back (ok z h) ∙ e
 pub eq-bits : {a b : ℤ} → SFits w64 a → SFits w64 b → ofZ w64 a ≡ ofZ w64 b → a ≡ b
 eq-bits h k e = sym (back h) ∙ ap (toZ w64) e ∙ back k
 
-pub ne-bits : {a b : ℤ} → (ofZ w64 a ≡ ofZ w64 b → ⊥) → a ≡ b → ⊥
-ne-bits n e = n (ap (ofZ w64) e)
-
 -- an unsigned number, cast: its bits are the number
 pub up : (m : ℕ) → m < 2 ^ 63 → toZ w64 m ≡ pos m
 up m h = toZ-pos w64 m h

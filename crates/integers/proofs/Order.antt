@@ -119,13 +119,6 @@ lt-leZ a b h = by (leZ a b) refl
         no k = omega zorder
     by false e = refl
 
--- what does not hold
-pub not-le : {a b : ℤ} → (a ≤ℤ b → ⊥) → b <ℤ a
-not-le {a} {b} n = ⊎-elim (λ w. absurd (n w)) (λ w. w) (totalℤ a b)
-
-pub not-lt : {a b : ℤ} → (a <ℤ b → ⊥) → b ≤ℤ a
-not-lt {a} {b} n = ⊎-elim (λ w. w) (λ w. absurd (n w)) (totalℤ b a)
-
 -- a positive factor on both sides
 pub cancel-r : (a b w : ℤ) → pos 0 <ℤ w → (a *ℤ w) ≤ℤ (b *ℤ w) → a ≤ℤ b
 cancel-r a b w p h = ⊎-elim (λ l. l) (λ l. absurd (no l)) (totalℤ a b)

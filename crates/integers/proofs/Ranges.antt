@@ -1,19 +1,17 @@
 -- A bound on a number, and how sums and products keep one; what fits 64 bits, by `search`.
 use mathlib.Core.Path.{_≡_, refl}
-use mathlib.Core.Bool.{false}
-use Prim.Native.Nat.{ℕ, zero, suc, _+_, _*_, _<_, _^_, max}
+use Prim.Native.Nat.{ℕ, zero, suc, _+_, _*_, _<_, _^_}
 use native.Mathlib.Omega.{arith}
 use native.Mathlib.Nat.{mul-le-mul, le-trans}
 use lib.Dec.{T, leb, ltb, leb→le, ltb→lt}
 use lib.IntN.{ℤ, pos, negsuc, negℤ, natAbs, _+ℤ_, _-ℤ_, _*ℤ_}
-use lib.Signed.{_≤ℤ_, ltZ, mag}
+use lib.Signed.{_≤ℤ_, mag}
 use borrow.Author.Needs.{needs}
 use mir.Syntax.{Width, w64}
 use mir.Val.{SFits, hbits}
 use Rattle.integers.specs.Ranges.{Within}
 use Rattle.integers.proofs.Parts.{zorder, neg-P, neg-N}
 use Rattle.integers.proofs.Linear.{zlin, abs-pn, abs-lq}
-use Rattle.integers.proofs.Order.{ltZ-false}
 
 pub within : (z : ℤ) (B : ℕ) → negℤ (pos B) ≤ℤ z → z ≤ℤ pos B → Within z B
 within z B h k = record { abs = (abs-lq z B) .1 (omega (zorder, neg-P (pos B), neg-N (pos B), neg-P z, neg-N z)) }
@@ -76,15 +74,4 @@ mul-fits h k t = fits (within-mul h k) t
 pub any-fits : {a : ℤ} {A : ℕ} → Within a A → T (ltb A (2 ^ 63)) → SFits w64 a
 any-fits h t = fits h t
 
-pub widen : (a : ℤ) (A B : ℕ) → Within a A → T (leb A B) → Within a B
-widen a A B h t = within-more B h t
-
 pub ruleset zneeds = (needs, mul-fits, add-fits, sub-fits, any-fits, within-mul, within-add, within-sub, within-neg)
-
--- between two numbers
-pub between-within : (a lo hi : ℤ) → lo ≤ℤ a → a ≤ℤ hi → Within a (max (natAbs lo) (natAbs hi))
-between-within a lo hi h k = record { abs = (abs-lq a (max (natAbs lo) (natAbs hi))) .1 (omega (zorder, abs-pn lo, abs-pn hi, neg-P a, neg-N a)) }
-
--- a test in front: as the branches leave it
-pub tests-within : (z lo hi : ℤ) (B : ℕ) → ltZ z lo ≡ false → ltZ hi z ≡ false → T (leb (max (natAbs lo) (natAbs hi)) B) → Within z B
-tests-within z lo hi B p q t = within-more B (between-within z lo hi (ltZ-false z lo p) (ltZ-false hi z q)) t

@@ -12,9 +12,9 @@ use Rattle.integers.specs.Ranges.{Within}
 use Rattle.intervals.specs.Interval.{mark, pointI, negI, wideI}
 use Rattle.intervals.specs.Ranges.{FitsAdd, FitsNeg, FitsMul, InI}
 use Rattle.intervals.proofs.Ranges.{in-point, in-add, in-neg, in-wide, in-out, in-sum, fits-add, fits-neg, fits-mul}
-use Rattle.intervals.specs.Places.{sideAt, cellAt, vectorOf, matrixOf}
+use Rattle.intervals.specs.Places.{sideAt, vectorOf}
 use Rattle.sizes.specs.Bounds.{valueMax, slopeMax}
-use Rattle.intervals.proofs.Places.{side-made, cell-made}
+use Rattle.intervals.proofs.Places.{side-made}
 use Rattle.intervals.specs.declared.Interval.{Interval}
 use Rattle.matrices.specs.Products.{dotI, unitZ, entryB, dOf, bOf, eOf}
 use Rattle.matrices.specs.Ranges.{zMax, dMax, bMax, eMax, DotIn, DIn, EntryIn, RowIn, BIn, EIn}
@@ -99,11 +99,6 @@ module _ {n : ℕ} {C : ℕ → ℕ → ℤ} {S : ℕ → ℕ → Interval} (h :
   pub in-b : (j : ℕ) → j < n → InI bMax (bOf n C S i j)
   unfolding bOf
   in-b j m = in-entry (record { room = h .room; inverse = λ k u. in-point (h .inverse i k l u); slopes = λ k u. h .slopes k j u m }) i j
-
--- B is within what E takes
-pub factors-in : {n : ℕ} {C : ℕ → ℕ → ℤ} {S : ℕ → ℕ → Interval} → BIn n C S → {b : List (List Interval)} → b ≡ matrixOf n (bOf n C S)
-    → (i k : ℕ) → i < n → k < n → InI bMax (cellAt b i k)
-factors-in {n} {C} {S} h e i k l m = rw (cell-made n (h .room) (bOf n C S) e i k l m) (in-b h i l k m)
 
 -- E
 module _ {n : ℕ} {B : ℕ → ℕ → Interval} {Z : ℕ → Interval} (h : EIn n B Z) (i : ℕ) (l : i < n) where

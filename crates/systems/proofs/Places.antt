@@ -1,10 +1,10 @@
--- F and S place by place, and that only the first n equations count.
+-- F and S place by place, and that only the first n coordinates of a box count.
 use mathlib.Core.Path.{_≡_, ap, _∙_}
 use mathlib.Core.List.{List, []}
 use Prim.Native.Nat.{ℕ, _<_, _≤_}
 use lib.ListN.{getD, replicate}
 use Rattle.sizes.specs.Sizes.{nMax}
-use Rattle.lists.proofs.Tab.{getD-tab, tab-cong}
+use Rattle.lists.proofs.Tab.{getD-tab}
 use Rattle.intervals.specs.Interval.{zeroI, pointI}
 use Rattle.intervals.proofs.Sums.{sumI-cong}
 use Rattle.lists.proofs.Carry.{carry-cong}
@@ -25,16 +25,6 @@ module _ {n : ℕ} (room : n ≤ nMax) (q : ℕ → Equation) (X : ℕ → Inter
       ap (λ (r : List Interval). sideAt r j) (getD-tab (replicate nMax zeroI) nMax n (λ i. slopeRow n (q i) X) [] i l room)
       ∙ getD-tab zeroI nMax n (λ j. slopeOver n (q i) j X) zeroI j m room
 
-module _ (n : ℕ) (q r : ℕ → Equation) (X : ℕ → Interval) (same : (i : ℕ) → i < n → q i ≡ r i) where
-  pub values-cong : valuesOver n q X ≡ valuesOver n r X
-  unfolding valuesOver
-  values-cong = tab-cong zeroI nMax n (λ i. equationOver n (q i) X) (λ i. equationOver n (r i) X) (λ i l. ap (λ e. equationOver n e X) (same i l))
-
-  pub slopes-cong : slopesOver n q X ≡ slopesOver n r X
-  unfolding slopesOver
-  slopes-cong = tab-cong (replicate nMax zeroI) nMax n (λ i. slopeRow n (q i) X) (λ i. slopeRow n (r i) X) (λ i l. ap (λ e. slopeRow n e X) (same i l))
-
--- only the first n coordinates of a box count
 module _ (n : ℕ) {X Y : ℕ → Interval} (same : (k : ℕ) → k < n → X k ≡ Y k) where
   term-cong : (c : ℤ) (e : ℕ → ℕ) → termOver n c e X ≡ termOver n c e Y
   unfolding termOver

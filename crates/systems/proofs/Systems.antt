@@ -12,13 +12,11 @@ use Rattle.intervals.specs.Interval.{mark}
 use Rattle.jobs.specs.Places.{noEquation, equationAt}
 use Rattle.jobs.specs.Zero.{zeroEquation}
 use Rattle.intervals.specs.Places.{numberAt}
-use Rattle.intervals.specs.declared.Interval.{Interval}
 use Rattle.jobs.specs.declared.Kind.{Kind}
 use Rattle.jobs.specs.declared.Job.{Job}
-use Rattle.systems.specs.Terms.{valuesOver, slopesOver, coefOf}
+use Rattle.systems.specs.Terms.{coefOf}
 use Rattle.systems.specs.Kinds.{unitE, eigenE, rowCoef, build, linearEquation, eigenEquation, rowOf, pinned, equationBy, equationOf, equationsOf}
 use Rattle.systems.specs.Ranges.{EquationIn, SystemIn, EntriesIn, PartsIn, JobIn}
-use Rattle.systems.proofs.Places.{values-cong, slopes-cong}
 use Rattle.systems.specs.Fractions.{DegreesIn}
 use Rattle.systems.proofs.Exponents.{row-entry, row-last}
 use Rattle.systems.proofs.Formulas.{built-coef, linear-exact, eigen-exact}
@@ -76,11 +74,3 @@ equations-at j room i l = getD-tab zeroEquation nMax (j .n) (equationOf j) noEqu
 
 pub equations-in : {j : Job} → JobIn j → SystemIn (j .n) (equationAt (equationsOf j))
 equations-in {j} h = record { each = λ i l. rw (equations-at j (h .places) i l) (system-in h .each i l) }
-
--- F and S of what `equations` returns are those of the job's equations
-module _ (j : Job) (room : j .n ≤ nMax) (X : ℕ → Interval) where
-  pub equations-values : valuesOver (j .n) (equationAt (equationsOf j)) X ≡ valuesOver (j .n) (equationOf j) X
-  equations-values = values-cong (j .n) (equationAt (equationsOf j)) (equationOf j) X (equations-at j room)
-
-  pub equations-slopes : slopesOver (j .n) (equationAt (equationsOf j)) X ≡ slopesOver (j .n) (equationOf j) X
-  equations-slopes = slopes-cong (j .n) (equationAt (equationsOf j)) (equationOf j) X (equations-at j room)
