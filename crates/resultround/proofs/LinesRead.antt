@@ -11,10 +11,9 @@ use borrow.Author.Tests.{ltb-false, eqb-true}
 use Rattle.sizes.specs.Sizes.{nMax, stepsMax, numberMax, endMax}
 use Rattle.digits.specs.Number.{digitsMax, readNumber}
 use Rattle.digits.specs.Show.{showMagnitude}
-use Rattle.text.specs.Cut.{feeds}
 use Rattle.text.specs.Keys.{sameBytes, bodyOf}
 use Rattle.text.specs.Counts.{countOf}
-use Rattle.text.specs.Lists.{noNumbers, addRead, addField, lastField, readList, joined, showList, padded}
+use Rattle.text.specs.Lists.{readList, joined, showList, padded}
 use Rattle.text.proofs.Keys.{same-was, body-was}
 use Rattle.text.proofs.Counts.{count-was, count-size}
 use Rattle.text.proofs.Pieces.{rest}
@@ -23,6 +22,7 @@ use Rattle.jobs.specs.Ranges.{allWithin, allOrdered}
 use Rattle.resulttext.specs.Words.{jobKey, verdictKey, stepsKey, loKey, hiKey, verdictWord}
 use Rattle.resulttext.specs.Reading.{badLine, withNumber, withVerdict, withSteps, withLo, withHi}
 use Rattle.resulttext.specs.ResultText.{numberValue, numberLine, verdictOf, verdictValue, verdictLine, stepsValue, stepsLine, loValue, loLine, hiValue, hiLine, lineOf, unlessBad, readLine}
+use Rattle.writing.proofs.ListLines.{no-list, list-line}
 use Rattle.text.specs.declared.Count.{Count}
 use Rattle.jobs.specs.declared.Fault.{Fault}
 use Rattle.jobs.specs.declared.Result.{Result}
@@ -74,14 +74,6 @@ from-end : (k : ℕ) (r q : Result) (ls : List (List ℕ)) → Ends (foldl readL
 unfolding readLine unlessBad lineOf
 from-end k r q [] e = record { lines = refl; result = e .result }
 from-end k r q (l ∷ ls) e = bad-ends ls (at k Line.End r) Fault.Spelling e
-
-no-list : readList [] .ok ≡ false
-unfolding readList lastField feeds addField addRead readNumber noNumbers
-no-list = refl
-
--- a list stands after its key
-list-line : (key l : List ℕ) → readList (bodyOf key l) .ok ≡ true → key ++ bodyOf key l ≡ l
-list-line key l e = body-was key l (λ n. absurd (false≢true (sym no-list ∙ ap (λ (b : List ℕ). readList b .ok) (sym n) ∙ e)))
 
 pub record FromHi (r q : Result) (ls : List (List ℕ)) : Type 0 where
   pub ys : List ℤ

@@ -1,10 +1,10 @@
 -- Values to text to values: a written result is read back, with zeros in its dead places.
 use Prim.Native.Nat.{ℕ, _+_, _≤_, _<_}
 use native.Mathlib.Omega.{arith}
-use mathlib.Core.Path.{_≡_, refl, sym, ap, _∙_}
-use mathlib.Core.List.{List, [], _∷_, _++_, append-assoc, foldl}
+use mathlib.Core.Path.{_≡_, refl, ap, _∙_}
+use mathlib.Core.List.{List, [], _∷_, _++_, foldl}
 use mathlib.Core.Bool.{true}
-use lib.ListN.{length, take, getD, length-append, length-take}
+use lib.ListN.{length, take, getD, length-take}
 use lib.Seq.{length-take-le, getD-take}
 use lib.IntN.{ℤ, pos}
 use borrow.Author.Tests.{le-ltb, eq-eqb}
@@ -23,8 +23,7 @@ use Rattle.jobs.specs.Ranges.{allWithin, allOrdered}
 use Rattle.jobs.specs.CheckResult.{checkResult}
 use Rattle.jobs.proofs.RangeLaws.{all-within, within-all, all-ordered, ordered-all}
 use Rattle.jobs.proofs.CheckResultLaws.{Sound, sound}
-use Rattle.writing.specs.Wrote.{line}
-use Rattle.writing.proofs.Lines.{count-line-short, list-line-short}
+use Rattle.writing.proofs.Lines.{count-line-short, list-line-short, end-length, end-none}
 use Rattle.resulttext.specs.Words.{jobKey, verdictKey, stepsKey, loKey, hiKey, verdictWord}
 use Rattle.resulttext.specs.Reading.{withNumber, withVerdict, withSteps, withLo, withHi, startReading}
 use Rattle.jobs.specs.Zero.{noResult}
@@ -116,14 +115,6 @@ lines-above r =
     )
 
 -- ---- the text is short enough
-
-end-length : (l : List ℕ) (ls : List (List ℕ)) → length (endEach lineFeed (l ∷ ls)) ≡ length (line l) + length (endEach lineFeed ls)
-unfolding endEach line
-end-length l ls = sym (ap length (append-assoc l (lineFeed ∷ []) (endEach lineFeed ls))) ∙ length-append (l ++ (lineFeed ∷ [])) (endEach lineFeed ls)
-
-end-none : length (endEach lineFeed []) ≡ 0
-unfolding endEach
-end-none = refl
 
 short : (r : Result) → r .n ≤ nMax → length (showResult r) ≤ textMax
 unfolding showResult resultLines

@@ -2,3 +2,4 @@ pub mod Wrote
 pub mod Lists
 pub mod Lines
 pub mod Answer
+pub mod ListLines

@@ -1,13 +1,15 @@
--- How long a line is at most.
+-- How long a line is at most, and lines one after the other.
 use Prim.Native.Nat.{ℕ, _+_, _*_, _≤_}
 use native.Mathlib.Omega.{arith}
-use mathlib.Core.List.{List, [], _∷_, _++_}
+use mathlib.Core.Path.{_≡_, refl, sym, ap, _∙_}
+use mathlib.Core.List.{List, [], _∷_, _++_, append-assoc}
 use lib.ListN.{length, length-append}
 use lib.IntN.{ℤ}
 use Rattle.digits.specs.Bytes.{lineFeed}
 use Rattle.digits.specs.Number.{digitsMax}
 use Rattle.digits.specs.Show.{showMagnitude}
 use Rattle.digits.proofs.Show.{show-short}
+use Rattle.text.specs.Cut.{endEach}
 use Rattle.text.specs.Lists.{showList}
 use Rattle.writing.specs.Wrote.{line}
 use Rattle.writing.proofs.Lists.{list-short}
@@ -22,3 +24,11 @@ pub list-line-short : (key : List ℕ) (xs : List ℤ) → length (line (key ++ 
 unfolding line
 list-line-short key xs =
     rw (length-append (key ++ showList xs) (lineFeed ∷ []), length-append key (showList xs)) (omega (arith, list-short xs))
+
+pub end-length : (l : List ℕ) (ls : List (List ℕ)) → length (endEach lineFeed (l ∷ ls)) ≡ length (line l) + length (endEach lineFeed ls)
+unfolding endEach line
+end-length l ls = sym (ap length (append-assoc l (lineFeed ∷ []) (endEach lineFeed ls))) ∙ length-append (l ++ (lineFeed ∷ [])) (endEach lineFeed ls)
+
+pub end-none : length (endEach lineFeed []) ≡ 0
+unfolding endEach
+end-none = refl

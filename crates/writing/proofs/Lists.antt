@@ -4,9 +4,10 @@ use native.Mathlib.Omega.{arith}
 use native.Mathlib.Numerals.{add-one}
 use mathlib.Core.Path.{_≡_, refl}
 use mathlib.Core.List.{List, [], _∷_, _++_, map, append-assoc, append-nil}
-use lib.ListN.{length, getD, length-append, drop-of-length-le}
-use lib.Seq.{drop-cons}
+use lib.ListN.{length, take, getD, length-append, length-take, drop-of-length-le}
+use lib.Seq.{drop-cons, getD-take}
 use lib.IntN.{ℤ, pos, natAbs}
+use Rattle.integers.specs.Ranges.{Within}
 use Rattle.digits.specs.Bytes.{comma}
 use Rattle.digits.specs.Number.{digitsMax}
 use Rattle.digits.specs.Show.{showNumber}
@@ -19,6 +20,18 @@ unfolding Small
 small-at [] i s h = absurd (omega arith)
 small-at (x ∷ xs) zero s h = s .0
 small-at (x ∷ xs) (suc i) s h = small-at xs i (s .1) (omega arith)
+
+small-each : (xs : List ℤ) → ((i : ℕ) → i < length xs → natAbs (getD xs i (pos 0)) < 10 ^ digitsMax) → Small xs
+unfolding Small
+small-each [] h = tt
+small-each (x ∷ xs) h = (h zero (omega arith), small-each xs (λ i l. h (suc i) (omega arith)))
+
+-- the live places of a row that is within a size of at most nine digits
+pub small-row : (xs : List ℤ) (n B : ℕ) → B < 10 ^ digitsMax → ((i : ℕ) → i < n → Within (getD xs i (pos 0)) B) → Small (take n xs)
+small-row xs n B b w =
+    small-each (take n xs) (λ i l.
+    let h : i < n = omega (arith, length-take n xs) in
+    rw (getD-take n xs i (pos 0) h) (omega (arith, w i h .abs)))
 
 -- one number more
 pub more-one : (xs : List ℤ) (i : ℕ) (done : List ℕ) → i < length xs

@@ -1,0 +1,56 @@
+-- `jobwrite::lines::put_inverse_line` meets its contract.
+use borrow.Author.Needs.{needs}
+use native.Mathlib.Omega.{arith}
+use Rattle.joblines.proofs.Squares.{square-fits}
+use Rattle.jobwrite.proofs.Matrix.{matrix-taken, matrix-long, matrix-prefix, matrix-small}
+use Rattle.jobwrite.proofs.lines.put_inverse_line.Statement.{statement}
+use Rattle.jobwrite.proofs.lines.put_inverse_line.Tie as tie
+
+entries-requires : tie.Need-entries-requires
+entries-requires c κs = (c .before .pre .some, c .before .pre .few)
+
+slice-aggregate-put-list-line : tie.Need-slice-aggregate-put-list-line
+slice-aggregate-put-list-line c = search needs
+
+mul-all : tie.Need-mul-all
+mul-all c = omega (arith, square-fits (c .before .before .before .before .args .n) (c .before .before .before .before .pre .few))
+
+array-share-prefix-all : tie.Need-array-share-prefix-all
+array-share-prefix-all c = omega (arith, square-fits (c .before .before .before .before .args .n) (c .before .before .before .before .pre .few))
+
+slice-aggregate-put-list-line-2 : tie.Need-slice-aggregate-put-list-line-2
+slice-aggregate-put-list-line-2 c =
+    let start = c .before .before .before .before .before in
+    matrix-prefix (start .args .inv) (start .args .n) (start .pre .few) (c .before .before .before .entries .ensures)
+
+put-list-line-requires : tie.Need-put-list-line-requires
+put-list-line-requires c κs =
+    let start = c .before .before .before .before .before in
+    let rows = start .args .inv in
+    let n = start .args .n in
+    let few = start .pre .few in
+    rw (matrix-taken rows n few (c .before .before .before .entries .ensures)) (
+      omega (arith, start .pre .room, matrix-long rows n few, square-fits n few),
+      matrix-small rows n few (start .pre .some) (start .pre .entries),
+    )
+
+same-length : tie.Need-same-length
+same-length c = search needs
+
+returns : tie.Need-returns
+returns c =
+    let start = c .before .before .before .before .before .before .before .before in
+    rw (matrix-taken (start .args .inv) (start .args .n) (start .pre .few) (c .before .before .before .before .before .before .entries .ensures)) at (c .before .before .put-list-line .ensures)
+
+pub put-inverse-line-spec : {M : Type 1} → statement M
+put-inverse-line-spec =
+    tie.close
+    (tie.spec
+    entries-requires
+    slice-aggregate-put-list-line
+    mul-all
+    array-share-prefix-all
+    slice-aggregate-put-list-line-2
+    put-list-line-requires
+    same-length
+    returns)

@@ -1,0 +1,59 @@
+-- `jobwrite::put_head` meets its contract.
+use borrow.Author.Needs.{needs}
+use native.Mathlib.Omega.{arith}
+use Rattle.joblines.specs.Words.{jobKey}
+use Rattle.writing.proofs.Wrote.{wrote-line, wrote-last}
+use Rattle.writing.proofs.Lines.{count-line-short}
+use Rattle.jobwrite.specs.ShowJob.{headTexts}
+use Rattle.jobwrite.proofs.TextLines.{kind-line-short}
+use Rattle.jobwrite.proofs.put_head.Statement.{statement}
+use Rattle.jobwrite.proofs.put_head.Tie as tie
+
+slice-aggregate-put-count-line : tie.Need-slice-aggregate-put-count-line
+slice-aggregate-put-count-line c = search needs
+
+put-count-line-requires : tie.Need-put-count-line-requires
+put-count-line-requires c κs = search needs
+
+put-kind-line-requires : tie.Need-put-kind-line-requires
+put-kind-line-requires c κs =
+    let start = c .before .before .before .before .before .before .before in
+    omega (arith, c .before .before .before .put-count-line .ensures .next, count-line-short jobKey (start .args .j .number), start .pre)
+
+slice-aggregate-put-count-line-2 : tie.Need-slice-aggregate-put-count-line-2
+slice-aggregate-put-count-line-2 c = search needs
+
+put-count-line-requires-2 : tie.Need-put-count-line-requires-2
+put-count-line-requires-2 c κs =
+    let start = c .before .before .before .before .before .before .before .before .before .before .before .before in
+    let j = start .args .j in
+    omega (
+      arith,
+      c .before .before .before .before .before .before .before .before .put-count-line .ensures .next,
+      count-line-short jobKey (j .number),
+      c .before .before .before .before .put-kind-line .ensures .next,
+      kind-line-short (j .kind),
+      start .pre,
+    )
+
+same-length : tie.Need-same-length
+same-length c = search needs
+
+returns : tie.Need-returns
+unfolding headTexts
+returns c =
+    wrote-line _ _ (c .before .before .before .before .before .before .before .before .before .before .before .put-count-line .ensures)
+    (wrote-line _ _ (c .before .before .before .before .before .before .before .put-kind-line .ensures)
+    (wrote-last _ (c .before .before .put-count-line2 .ensures)))
+
+pub put-head-spec : {M : Type 1} → statement M
+put-head-spec =
+    tie.close
+    (tie.spec
+    slice-aggregate-put-count-line
+    put-count-line-requires
+    put-kind-line-requires
+    slice-aggregate-put-count-line-2
+    put-count-line-requires-2
+    same-length
+    returns)

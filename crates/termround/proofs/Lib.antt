@@ -1,0 +1,4 @@
+pub mod Stored
+pub mod WriteBack
+pub mod ReadBack
+pub mod LiveTerms
