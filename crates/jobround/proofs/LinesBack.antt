@@ -146,8 +146,9 @@ module _ (k : ℕ) (x : Job) where
   low-step row long some few small c =
       let n = x .n in
       let xs = take n row in
+      let read : List ℤ → Status = λ ys. spelledThen (rightCount (listed (length xs) (shelved xs)) n) k (lowLine k n ys) in
       ap (loValue (at k Line.Lo x)) (list-read loKey xs (omega arith) small (omega arith))
-      ∙ ap (λ (ys : List ℤ). judged (spelledThen (rightCount (listed (length xs) (shelved xs)) n) k (lowLine k n ys)) (at k Line.Lo x) Line.Hi (withLo x ys))
+      ∙ ap (λ (ys : List ℤ). judged (read ys) (at k Line.Lo x) Line.Hi (withLo x ys))
       (cells-live row _ n long)
       ∙ judged-good _ _ _ (spelled-good k (count-right (shelved xs) long) c)
 
@@ -158,8 +159,9 @@ module _ (k : ℕ) (x : Job) where
   high-step row long some few small c =
       let n = x .n in
       let xs = take n row in
+      let read : List ℤ → Status = λ ys. spelledThen (rightCount (listed (length xs) (shelved xs)) n) k (highLine k n (x .lo) ys) in
       ap (hiValue (at k Line.Hi x)) (list-read hiKey xs (omega arith) small (omega arith))
-      ∙ ap (λ (ys : List ℤ). judged (spelledThen (rightCount (listed (length xs) (shelved xs)) n) k (highLine k n (x .lo) ys)) (at k Line.Hi x) Line.Inv (withHi x ys))
+      ∙ ap (λ (ys : List ℤ). judged (read ys) (at k Line.Hi x) Line.Inv (withHi x ys))
       (cells-live row _ n long)
       ∙ judged-good _ _ _ (spelled-good k (count-right (shelved xs) long) c)
 
@@ -172,8 +174,9 @@ module _ (k : ℕ) (x : Job) where
       let xs = matrixList rows n in
       let long = matrix-long rows n few in
       let fits = square-fits n few in
+      let read : List Row → Status = λ ys. spelledThen (rightCount (listed (length xs) (shelved xs)) (n * n)) k (inverseLine k n ys) in
       ap (invValue (at k Line.Inv x)) (list-read invKey xs (omega (arith, row-own n some)) small (omega arith))
-      ∙ ap (λ (ys : List Row). judged (spelledThen (rightCount (listed (length xs) (shelved xs)) (n * n)) k (inverseLine k n ys)) (at k Line.Inv x) Line.Steps (withInverse x ys))
+      ∙ ap (λ (ys : List Row). judged (read ys) (at k Line.Inv x) Line.Steps (withInverse x ys))
       (rows-back rows n some few _)
       ∙ judged-good _ _ _ (spelled-good k (count-right (shelved xs) long) c)
 

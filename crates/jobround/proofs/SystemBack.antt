@@ -78,9 +78,10 @@ module _ (k i : ℕ) (j : Job) (live : i < j .n) (some : 1 ≤ j .n) (few : j .n
         let n = j .n in
         let xs = take n row in
         let s = at k (Line.System i) (liveAs Kind.Eigen i j) in
+        let read : List ℤ → Status = λ ys. spelledThen (rightCount (listed (length xs) (shelved xs)) n) k (rowLine k n ys) in
         let check = ap (rowLine k n) (sym (row-at (j .rows) n n i live few)) ∙ c in
         ap (rowValue i s) (list-read rowKey xs (omega (arith, row-long)) (small-row row n entryMax (omega arith) g) (omega (arith, row-long)))
-        ∙ ap (λ (ys : List ℤ). judged (spelledThen (rightCount (listed (length xs) (shelved xs)) n) k (rowLine k n ys)) s (afterSystem i n) (withRow (liveAs Kind.Eigen i j) i ys))
+        ∙ ap (λ (ys : List ℤ). judged (read ys) s (afterSystem i n) (withRow (liveAs Kind.Eigen i j) i ys))
         (cells-live row _ n row-long)
         ∙ judged-good _ _ _ (spelled-good k (count-right (shelved xs) row-long) check)
         ∙ ap (λ (rows : List Row). at (k + 1) (afterSystem i n) (withSystem (liveAs Kind.Eigen i j) (liveEqs Kind.Eigen i j) rows (liveRight Kind.Eigen i j)))
@@ -98,11 +99,13 @@ module _ (k i : ℕ) (j : Job) (live : i < j .n) (some : 1 ≤ j .n) (few : j .n
         let s = at k (Line.System i) (liveAs Kind.Linear i j) in
         let f : ℕ → ℤ = λ p. getD (j .right) p (pos 0) in
         let size : length xs ≡ n + 1 = length-append (take n row) (right ∷ []) ∙ ap (λ (m : ℕ). m + 1) row-long in
+        let small = small-snoc (take n row) right (small-row row n entryMax (omega arith) (g .0)) (omega (arith, g .1 .abs)) in
+        let read : List ℤ → ℤ → Status = λ ys z. spelledThen (rightCount (listed (length xs) (shelved xs)) (n + 1)) k (sidedLine k n ys z) in
         let parts : xs ++ zs ≡ take n row ++ (right ∷ zs) = append-assoc (take n row) (right ∷ []) zs in
         let check = ap₂ (sidedLine k n) (sym (row-at (j .rows) n n i live few)) (sym (getD-tab (pos 0) nMax n f (pos 0) i live few)) ∙ c in
         ap (sidedValue i s)
-        (list-read rowKey xs (omega (arith, size)) (small-snoc (take n row) right (small-row row n entryMax (omega arith) (g .0)) (omega (arith, g .1 .abs))) (omega (arith, size)))
-        ∙ ap₂ (λ (ys : List ℤ) (z : ℤ). judged (spelledThen (rightCount (listed (length xs) (shelved xs)) (n + 1)) k (sidedLine k n ys z)) s (afterSystem i n) (withSide (withRow (liveAs Kind.Linear i j) i ys) i z))
+        (list-read rowKey xs (omega (arith, size)) small (omega (arith, size)))
+        ∙ ap₂ (λ (ys : List ℤ) (z : ℤ). judged (read ys z) s (afterSystem i n) (withSide (withRow (liveAs Kind.Linear i j) i ys) i z))
         (ap (λ (ys : List ℤ). cells ys 0 n) parts ∙ cells-live row (right ∷ zs) n row-long)
         (ap (λ (ys : List ℤ). getD ys n (pos 0)) parts ∙ getD-at (take n row) right zs (pos 0) n row-long)
         ∙ judged-good _ _ _ (spelled-good k (count-right (shelved xs) size) check)

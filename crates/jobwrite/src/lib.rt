@@ -2,9 +2,7 @@
 mod lines;
 mod system;
 
-ghost use mathlib.Core.Path.{_≡_};
 ghost use Prim.Native.Nat.{_+_, _*_, _≤_};
-ghost use Rattle.sizes.specs.Sizes.{nMax};
 ghost use Rattle.digits.specs.Bytes.{lineFeed};
 ghost use Rattle.text.specs.Cut.{endEach};
 ghost use Rattle.jobs.specs.Accepted.{Accepted};
@@ -12,7 +10,7 @@ ghost use Rattle.jobs.specs.Checks.{checkJob};
 ghost use Rattle.writing.specs.Wrote.{placeMax, Wrote};
 ghost use Rattle.writing.specs.Answer.{Leaves};
 ghost use Rattle.jobs.specs.declared.Status.{Status};
-ghost use Rattle.jobwrite.specs.ShowJob.{headTexts, boxTexts, jobBytes, headWidth, boxWidth, systemWidth};
+ghost use Rattle.jobwrite.specs.ShowJob.{headTexts, boxTexts, jobBytes, headWidth, boxWidth};
 use jobs::Fault;
 use jobs::Job;
 use jobs::Status;

@@ -96,7 +96,16 @@ module _ (n : ℕ) (t : Term) (few : n ≤ nMax) (low : (k : ℕ) → k < n → 
       let long = length-append num (colon ∷ ds) in
       let e = exponents-long n t in
       let at : length f - n - 1 ≡ length num = omega arith in
-      rw (at, lt-leb (length f) n (omega arith), getD-append-seam num colon ds 0, take-append-seam num (colon ∷ ds), drop-append-add num (colon ∷ ds) 1, digits-good, number-back (t .coef) (omega (arith, w .abs)), exponents-back)
+      rw (
+        at,
+        lt-leb (length f) n (omega arith),
+        getD-append-seam num colon ds 0,
+        take-append-seam num (colon ∷ ds),
+        drop-append-add num (colon ∷ ds) 1,
+        digits-good,
+        number-back (t .coef) (omega (arith, w .abs)),
+        exponents-back,
+      )
 
 -- ---- all terms
 

@@ -1,5 +1,5 @@
 // The writer of an `eq` line.
-ghost use Prim.Native.Nat.{_+_, _≤_, _<_};
+ghost use Prim.Native.Nat.{_+_, _<_};
 ghost use Rattle.text.specs.Lists.{joined};
 ghost use Rattle.writing.specs.Wrote.{placeMax, Wrote, line};
 ghost use Rattle.termwrite.specs.ShowTerms.{showExponents, showTerm, termTexts, equationText, commaBefore, ExponentsFit, TermFits, EquationFits};

@@ -25,7 +25,11 @@ same-length : tie.Need-same-length
 same-length c = search needs
 
 returns : tie.Need-returns
-returns c = wrote-as (job-parts (c .before .before .before .before .before .before .before .before .before .before .before .before .before .args .j)) (wrote-append (c .before .before .before .before .before .before .before .before .before .before .put-head .ensures) (wrote-append (c .before .before .before .before .before .before .put-box .ensures) (c .before .before .put-system .ensures)))
+returns c =
+    let box = c .before .before .before .before .before .before in
+    let head = box .before .before .before .before in
+    wrote-as (job-parts (head .before .before .before .args .j))
+    (wrote-append (head .put-head .ensures) (wrote-append (box .put-box .ensures) (c .before .before .put-system .ensures)))
 
 pub put-job-spec : {M : Type 1} → statement M
 put-job-spec =

@@ -28,7 +28,8 @@ same-length : tie.Need-same-length
 same-length c = search needs
 
 returns-2 : tie.Need-returns-2
-returns-2 c = rw (sym (c .before .before .before .before .before .before .check-job .ensures) ∙ c .before .before .before .before .enum-told .given .1) (c .before .before .write-ready .ensures)
+returns-2 c = let told = c .before .before .before .before in
+    rw (sym (told .before .before .check-job .ensures) ∙ told .enum-told .given .1) (c .before .before .write-ready .ensures)
 
 pub write-job-spec : {M : Type 1} → statement M
 write-job-spec =

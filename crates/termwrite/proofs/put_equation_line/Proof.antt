@@ -38,8 +38,9 @@ same-length c = search needs
 returns : tie.Need-returns
 unfolding line equationText
 returns c =
+    let terms = c .before .before .before .before .before .before in
     wrote-append
-    (wrote-append (c .before .before .before .before .before .before .before .before .before .before .put-bytes .ensures) (c .before .before .before .before .before .before .put-terms .ensures))
+    (wrote-append (terms .before .before .before .before .put-bytes .ensures) (terms .put-terms .ensures))
     (c .before .before .put-byte .ensures)
 
 pub put-equation-line-spec : {M : Type 1} → statement M

@@ -39,8 +39,9 @@ same-length c = search needs
 
 returns : tie.Need-returns
 returns c =
-    let start = c .before .before .before .before .before .before .before .before in
-    rw (matrix-taken (start .args .inv) (start .args .n) (start .pre .few) (c .before .before .before .before .before .before .entries .ensures)) at (c .before .before .put-list-line .ensures)
+    let made = c .before .before .before .before .before .before in
+    let start = made .before .before in
+    rw (matrix-taken (start .args .inv) (start .args .n) (start .pre .few) (made .entries .ensures)) at (c .before .before .put-list-line .ensures)
 
 pub put-inverse-line-spec : {M : Type 1} → statement M
 put-inverse-line-spec =

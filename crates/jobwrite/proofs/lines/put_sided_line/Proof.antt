@@ -72,14 +72,17 @@ put-number-requires c κs =
 
 put-byte-requires-2 : tie.Need-put-byte-requires-2
 put-byte-requires-2 c κs =
-    let start = c .before .before .before .before .before .before .before .before .before .before .before .before .before .before .before .before .before .before .before .before in
+    let comma-at = c .before .before .before .before .before .before .before in
+    let list-at = comma-at .before .before .before .before in
+    let key-at = list-at .before .before .before .before .before in
+    let start = key-at .before .before .before .before in
     let xs = take (start .args .n) (start .args .t3) in
     let number = rw (toZ-ofZ (start .fits .right)) at (c .before .before .before .put-number .ensures) in
     omega (
       arith,
-      c .before .before .before .before .before .before .before .before .before .before .before .before .before .before .before .before .put-bytes .ensures .next,
-      c .before .before .before .before .before .before .before .before .before .before .before .put-list .ensures .next,
-      c .before .before .before .before .before .before .before .put-byte .ensures .next,
+      key-at .put-bytes .ensures .next,
+      list-at .put-list .ensures .next,
+      comma-at .put-byte .ensures .next,
       number .next,
       number-short (start .args .right),
       list-short xs,
@@ -94,15 +97,19 @@ same-length c = search needs
 returns : tie.Need-returns
 unfolding line
 returns c =
-    let start = c .before .before .before .before .before .before .before .before .before .before .before .before .before .before .before .before .before .before .before .before .before .before .before in
+    let number-at = c .before .before .before .before .before .before in
+    let comma-at = number-at .before .before .before .before in
+    let list-at = comma-at .before .before .before .before in
+    let key-at = list-at .before .before .before .before .before in
+    let start = key-at .before .before .before .before in
     let row = start .args .t3 in
     let n = start .args .n in
     let long : length row ≡ nMax = search needs in
-    let number = rw (toZ-ofZ (start .fits .right)) at (c .before .before .before .before .before .before .put-number .ensures) in
-    let list = wrote-append (c .before .before .before .before .before .before .before .before .before .before .before .before .before .before .before .before .before .before .before .put-bytes .ensures) (c .before .before .before .before .before .before .before .before .before .before .before .before .before .before .put-list .ensures) in
+    let number = rw (toZ-ofZ (start .fits .right)) at (number-at .put-number .ensures) in
+    let list = wrote-append (key-at .put-bytes .ensures) (list-at .put-list .ensures) in
     wrote-append
     (wrote-as (sided-parts n row (start .args .right) (omega (arith, length-take n row, start .pre .some, start .pre .few)))
-    (wrote-append (wrote-append list (c .before .before .before .before .before .before .before .before .before .before .put-byte .ensures)) number))
+    (wrote-append (wrote-append list (comma-at .put-byte .ensures)) number))
     (c .before .before .put-byte2 .ensures)
 
 pub put-sided-line-spec : {M : Type 1} → statement M

@@ -1,0 +1,44 @@
+-- `desk::put_fault` meets its contract: two lines.
+use borrow.Author.Needs.{needs}
+use native.Mathlib.Omega.{arith}
+use Rattle.writing.proofs.Wrote.{wrote-line, wrote-last}
+use Rattle.writing.proofs.Lines.{count-line-short}
+use Rattle.desk.specs.Desk.{faultKey, faultBytes}
+use Rattle.desk.proofs.put_fault.Statement.{statement}
+use Rattle.desk.proofs.put_fault.Tie as tie
+
+fault-number-requires : tie.Need-fault-number-requires
+fault-number-requires c κs = search needs
+
+slice-aggregate-put-count-line : tie.Need-slice-aggregate-put-count-line
+slice-aggregate-put-count-line c = search needs
+
+put-count-line-requires : tie.Need-put-count-line-requires
+put-count-line-requires c κs = search needs
+
+slice-aggregate-put-count-line-2 : tie.Need-slice-aggregate-put-count-line-2
+slice-aggregate-put-count-line-2 c = search needs
+
+put-count-line-requires-2 : tie.Need-put-count-line-requires-2
+put-count-line-requires-2 c κs =
+    omega (arith, c .before .before .before .before .put-count-line .ensures .next, count-line-short faultKey (c .before .before .before .before .before .before .before .fault-number .result))
+
+same-length : tie.Need-same-length
+same-length c = search needs
+
+returns : tie.Need-returns
+unfolding faultBytes
+returns c =
+    wrote-line _ _ (rw (c .before .before .before .before .before .before .before .before .before .before .fault-number .ensures) at (c .before .before .before .before .before .before .before .put-count-line .ensures)) (wrote-last _ (c .before .before .put-count-line2 .ensures))
+
+pub put-fault-spec : {M : Type 1} → statement M
+put-fault-spec =
+    tie.close
+    (tie.spec
+    fault-number-requires
+    slice-aggregate-put-count-line
+    put-count-line-requires
+    slice-aggregate-put-count-line-2
+    put-count-line-requires-2
+    same-length
+    returns)

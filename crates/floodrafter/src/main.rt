@@ -1,0 +1,84 @@
+// The program floodrafter: texts in, texts out, over the proved desk.
+mod batch;
+mod people;
+mod reading;
+mod requests;
+
+use libc::STDIN_FILENO;
+use libc::STDOUT_FILENO;
+use requests::Op;
+use requests::same;
+
+enum Call {
+    Solve,
+    Job,
+    Result,
+    Batch,
+    Version,
+    Help,
+}
+
+fn call_of(word: &[u8]) -> Call {
+    if same(word, b"solve") {
+        return Call::Solve;
+    }
+    if same(word, b"job") {
+        return Call::Job;
+    }
+    if same(word, b"result") {
+        return Call::Result;
+    }
+    if same(word, b"batch") {
+        return Call::Batch;
+    }
+    if same(word, b"version") {
+        return Call::Version;
+    }
+    Call::Help
+}
+
+fn answer(call: Call, fd: i32, name: &[u8]) {
+    match call {
+        Call::Solve => people::one(Op::Solve, fd, name),
+        Call::Job => people::one(Op::Job, fd, name),
+        Call::Result => people::one(Op::Result, fd, name),
+        Call::Batch => batch::all(fd),
+        Call::Version => {
+            io::write_all(STDOUT_FILENO, b"floodrafter 1\n");
+        }
+        Call::Help => people::help(),
+    }
+}
+
+// On the file that the second argument names.
+fn answer_file(call: Call) {
+    let mut path = io::buffer();
+    let n = os::arg(2, &mut path);
+    if os::errno() != 0 {
+        os::fail(b"FILE");
+        return;
+    }
+    let fd = os::open_read(&path[..n]);
+    if fd < 0 {
+        os::fail(&path[..n]);
+        return;
+    }
+    answer(call, fd, &path[..n]);
+    libc::close(fd);
+}
+
+fn main() {
+    let mut word = io::buffer();
+    let n = os::arg(1, &mut word);
+    let call = call_of(&word[..n]);
+    let count = os::arg_count();
+    if count == 2 {
+        answer(call, STDIN_FILENO, b"standard input");
+        return;
+    }
+    if count == 3 {
+        answer_file(call);
+        return;
+    }
+    people::help();
+}

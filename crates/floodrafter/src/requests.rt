@@ -1,0 +1,131 @@
+// What is asked: an operation on a text.
+
+pub enum Op {
+    Solve,
+    Job,
+    Result,
+    Unknown,
+}
+
+// The line `OP LENGTH` of a request. A length that no u64 holds stands as the greatest one.
+pub struct Request {
+    pub op: Op,
+    pub length: u64,
+}
+
+fn starts(line: &[u8], key: &[u8]) -> bool {
+    if line.len() < key.len() {
+        return false;
+    }
+    let mut i = 0;
+    while i < key.len() {
+        if line[i] != key[i] {
+            return false;
+        }
+        i += 1;
+    }
+    true
+}
+
+pub fn same(line: &[u8], key: &[u8]) -> bool {
+    if line.len() != key.len() {
+        return false;
+    }
+    starts(line, key)
+}
+
+// One digit more.
+fn longer(length: u64, digit: u8) -> u64 {
+    if length > 1000000000000000000 {
+        return u64::MAX;
+    }
+    length * 10 + digit as u64
+}
+
+fn is_digit(b: u8) -> bool {
+    if b < b'0' {
+        return false;
+    }
+    b <= b'9'
+}
+
+fn all_digits(line: &[u8], from: usize) -> bool {
+    let mut i = from;
+    while i < line.len() {
+        if !is_digit(line[i]) {
+            return false;
+        }
+        i += 1;
+    }
+    true
+}
+
+// A length: one digit or more, and a leading zero stands alone.
+fn spelled(line: &[u8], from: usize) -> bool {
+    if line.len() <= from {
+        return false;
+    }
+    if line[from] == b'0' {
+        return line.len() - from == 1;
+    }
+    all_digits(line, from)
+}
+
+fn length_of(line: &[u8], from: usize) -> u64 {
+    let mut length: u64 = 0;
+    let mut i = from;
+    while i < line.len() {
+        let b = line[i];
+        length = longer(length, b & 15);
+        i += 1;
+    }
+    length
+}
+
+fn unknown() -> Request {
+    Request {
+        op: Op::Unknown,
+        length: 0,
+    }
+}
+
+fn sized(op: Op, line: &[u8], from: usize) -> Request {
+    if !spelled(line, from) {
+        return unknown();
+    }
+    let length = length_of(line, from);
+    Request { op, length }
+}
+
+// The request of a line without its LF.
+pub fn request_of(line: &[u8]) -> Request {
+    if starts(line, b"solve ") {
+        return sized(Op::Solve, line, 6);
+    }
+    if starts(line, b"job ") {
+        return sized(Op::Job, line, 4);
+    }
+    if starts(line, b"result ") {
+        return sized(Op::Result, line, 7);
+    }
+    unknown()
+}
+
+// The answer's bytes are at the start of the buffer, and this many.
+pub fn reply(op: Op, text: &[u8], out: &mut [u8]) -> usize {
+    match op {
+        Op::Solve => {
+            let a = desk::solve(text, out);
+            a.len
+        }
+        Op::Job => {
+            let a = desk::rewrite_job(text, out);
+            a.len
+        }
+        Op::Result => {
+            let a = desk::rewrite_result(text, out);
+            a.len
+        }
+        Op::Unknown => 0,
+    }
+}
