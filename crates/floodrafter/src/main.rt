@@ -7,7 +7,7 @@ mod requests;
 use libc::STDIN_FILENO;
 use libc::STDOUT_FILENO;
 use requests::Op;
-use requests::same;
+use text::same_bytes;
 
 enum Call {
     Solve,
@@ -19,19 +19,19 @@ enum Call {
 }
 
 fn call_of(word: &[u8]) -> Call {
-    if same(word, b"solve") {
+    if same_bytes(word, b"solve") {
         return Call::Solve;
     }
-    if same(word, b"job") {
+    if same_bytes(word, b"job") {
         return Call::Job;
     }
-    if same(word, b"result") {
+    if same_bytes(word, b"result") {
         return Call::Result;
     }
-    if same(word, b"batch") {
+    if same_bytes(word, b"batch") {
         return Call::Batch;
     }
-    if same(word, b"version") {
+    if same_bytes(word, b"version") {
         return Call::Version;
     }
     Call::Help

@@ -1,4 +1,5 @@
 // What is asked: an operation on a text.
+use text::starts;
 
 pub enum Op {
     Solve,
@@ -11,27 +12,6 @@ pub enum Op {
 pub struct Request {
     pub op: Op,
     pub length: u64,
-}
-
-fn starts(line: &[u8], key: &[u8]) -> bool {
-    if line.len() < key.len() {
-        return false;
-    }
-    let mut i = 0;
-    while i < key.len() {
-        if line[i] != key[i] {
-            return false;
-        }
-        i += 1;
-    }
-    true
-}
-
-pub fn same(line: &[u8], key: &[u8]) -> bool {
-    if line.len() != key.len() {
-        return false;
-    }
-    starts(line, key)
 }
 
 // One digit more.
