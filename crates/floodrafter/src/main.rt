@@ -50,6 +50,12 @@ fn answer(call: Call, fd: i32, name: &[u8]) {
     }
 }
 
+// A directory opens, and fails at the first read.
+fn readable(fd: i32) -> bool {
+    let mut none = [0u8; 1];
+    libc::read(fd, &mut none[..0]) >= 0
+}
+
 // On the file that the second argument names.
 fn answer_file(call: Call) {
     let mut path = io::buffer();
@@ -63,7 +69,11 @@ fn answer_file(call: Call) {
         os::fail(&path[..n]);
         return;
     }
-    answer(call, fd, &path[..n]);
+    if readable(fd) {
+        answer(call, fd, &path[..n]);
+    } else {
+        os::fail(&path[..n]);
+    }
     libc::close(fd);
 }
 
