@@ -1,6 +1,6 @@
 pub mod Exponents
 pub mod Degrees
-pub mod Turns
+pub mod Cases
 pub mod Places
 pub mod Ranges
 pub mod Factors

@@ -21,7 +21,7 @@ use Rattle.intervals.specs.declared.Interval.{Interval}
 use Rattle.jobs.specs.declared.Equation.{Equation}
 use Rattle.systems.specs.Terms.{coefOf, expsOf, factorI, termOver, equationOver, lowered, termSlope, slopeOver, valuesOver, slopesOver}
 use Rattle.systems.specs.Ranges.{BoxIn, TermIn, EquationIn, SystemIn, FactorIn, grow}
-use Rattle.systems.proofs.Turns.{term-next, slope-none, slope-some}
+use Rattle.systems.proofs.Cases.{term-next, slope-none, slope-some}
 use Rattle.systems.proofs.Places.{values-at, slopes-at}
 use Rattle.systems.proofs.Degrees.{degree-next, degree-mono, degree-lowered, exponent-degree}
 

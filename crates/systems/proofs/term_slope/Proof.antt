@@ -2,7 +2,7 @@
 use mathlib.Core.Path.{sym, _∙_}
 use native.Mathlib.Nat.{pos-of-ne-zero}
 use borrow.Author.Needs.{needs}
-use Rattle.systems.proofs.Turns.{slope-none, slope-some, lower-exponents}
+use Rattle.systems.proofs.Cases.{slope-none, slope-some, lower-exponents}
 use Rattle.systems.proofs.Ranges.{lowered-in, slope-fits}
 use Rattle.systems.proofs.term_slope.Statement.{statement}
 use Rattle.systems.proofs.term_slope.Tie as tie
