@@ -1,19 +1,19 @@
--- The two ways in which values are answered: by their text, and by their fault.
+-- The two ways in which a text that was read is answered: by its fault, and by what is made of its values.
 use Prim.Native.Nat.{ℕ}
 use mathlib.Core.Path.{_≡_}
 use mathlib.Core.List.{List}
 use Rattle.jobs.specs.declared.Fault.{Fault}
 use Rattle.jobs.specs.declared.Status.{Status}
+use Rattle.jobs.specs.Checks.{andThen}
 use Rattle.writing.specs.declared.Written.{Written}
-use Rattle.writing.specs.Answer.{Leaves}
-use Rattle.desk.specs.Desk.{faultBytes, told}
+use Rattle.writing.specs.Answer.{refused, Leaves}
+use Rattle.writing.proofs.Answer.{values-bad}
 
-module _ {old new : List ℕ} {a : Written} where
-  pub told-text : {st : Status} {t : List ℕ} → st ≡ Status.Done → Leaves Status.Done t old new a → Leaves Status.Done (told st t) old new a
-  unfolding told
-  told-text e l = rw e l
+module _ {st : Status} {t old : List ℕ} where
+  pub read-bad : {f : Fault} {line : ℕ} (next : Status) → st ≡ Status.Refused f line → Leaves (andThen st next) t old old (refused (Status.Refused f line))
+  unfolding andThen
+  read-bad {f} {line} next e = rw e (values-bad t old f line)
 
-  pub told-fault : {st : Status} {f : Fault} {line : ℕ} (t : List ℕ) → st ≡ Status.Refused f line
-      → Leaves Status.Done (faultBytes (Status.Refused f line)) old new a → Leaves Status.Done (told st t) old new a
-  unfolding told
-  told-fault t e l = rw e l
+  pub read-good : {next : Status} {new : List ℕ} {a : Written} → st ≡ Status.Done → Leaves next t old new a → Leaves (andThen st next) t old new a
+  unfolding andThen
+  read-good e l = rw e l

@@ -1,12 +1,14 @@
--- What the desk answers to a text: the bytes of a text, or those of a fault.
+-- What the desk makes of a text. A fault "writes nowhere", so that each entry has a status and the bytes that are written where it is no fault.
 use Prim.Native.Nat.{ℕ}
 use mathlib.Core.List.{List, [], _∷_, _++_}
+use lib.ListN.{length}
+use lib.Seq.{sets}
 use Rattle.digits.specs.Bytes.{lineFeed}
 use Rattle.digits.specs.Number.{digitsMax}
 use Rattle.digits.specs.Show.{showMagnitude}
 use Rattle.text.specs.Cut.{endEach}
 use Rattle.jobs.specs.Words.{numberOf, lineOf}
-use Rattle.jobs.specs.Checks.{checkJob}
+use Rattle.jobs.specs.Checks.{andThen, checkJob}
 use Rattle.jobs.specs.CheckResult.{checkResult}
 use Rattle.resulttext.specs.ResultText.{readResult}
 use Rattle.resultwrite.specs.Show.{showResult}
@@ -15,7 +17,6 @@ use Rattle.jobwrite.specs.ShowJob.{jobBytes}
 use Rattle.run.specs.Job.{runJob}
 use Rattle.jobs.specs.declared.Status.{Status}
 use Rattle.jobs.specs.declared.Job.{Job}
-use Rattle.jobs.specs.declared.Result.{Result}
 
 -- `fault=`
 abbrev pub faultKey : List ℕ
@@ -31,29 +32,39 @@ faultBytes st =
     endEach lineFeed
     ((faultKey ++ showMagnitude digitsMax (numberOf st)) ∷ (lineKey ++ showMagnitude digitsMax (lineOf st)) ∷ [])
 
--- values with the status st, whose text is t, are answered by that text or by their fault
-unfoldable pub told : Status → List ℕ → List ℕ
-told Status.Done t = t
-told (Status.Refused f line) t = faultBytes (Status.Refused f line)
+-- a job text is read and written again
+unfoldable pub jobStatus : List ℕ → Status
+jobStatus t = andThen (readJob t .status) (checkJob (readJob t .job))
 
-unfoldable pub resultBytes : Result → List ℕ
-resultBytes r = told (checkResult r) (showResult r)
+unfoldable pub jobText : List ℕ → List ℕ
+jobText t = jobBytes (readJob t .job)
 
 -- a result text is read and written again
-unfoldable pub answerResult : List ℕ → List ℕ
-answerResult t = told (readResult t .status) (resultBytes (readResult t .result))
+unfoldable pub resultStatus : List ℕ → Status
+resultStatus t = andThen (readResult t .status) (checkResult (readResult t .result))
 
--- a job text is read and written again
-unfoldable pub checkedJob : Job → List ℕ
-checkedJob j = told (checkJob j) (jobBytes j)
+unfoldable pub resultText : List ℕ → List ℕ
+resultText t = showResult (readResult t .result)
 
-unfoldable pub answerJob : List ℕ → List ℕ
-answerJob t = told (readJob t .status) (checkedJob (readJob t .job))
+-- a job is run, and its result written
+unfoldable pub runStatus : Job → Status
+runStatus j = andThen (runJob j .status) (checkResult (runJob j .result))
 
--- a job is run and answered by its result's text
-unfoldable pub runBytes : Job → List ℕ
-runBytes j = told (runJob j .status) (resultBytes (runJob j .result))
+unfoldable pub runText : Job → List ℕ
+runText j = showResult (runJob j .result)
 
 -- a job text is read, run and answered
-unfoldable pub answerSolve : List ℕ → List ℕ
-answerSolve t = told (readJob t .status) (runBytes (readJob t .job))
+unfoldable pub solveStatus : List ℕ → Status
+solveStatus t = andThen (readJob t .status) (runStatus (readJob t .job))
+
+unfoldable pub solveText : List ℕ → List ℕ
+solveText t = runText (readJob t .job)
+
+-- what is told of a text in its buffer: its length, or the lines of the fault, from the buffer's start on
+unfoldable pub toldLength : Status → ℕ → ℕ
+toldLength Status.Done len = len
+toldLength (Status.Refused f line) len = length (faultBytes (Status.Refused f line))
+
+unfoldable pub toldIn : Status → List ℕ → List ℕ
+toldIn Status.Done old = old
+toldIn (Status.Refused f line) old = sets old 0 (faultBytes (Status.Refused f line))

@@ -1,18 +1,74 @@
-// From text to text: a job's answer, and both texts written again. Every text is answered, a refused one by the lines of its fault.
+// From text to text: a job's answer, and both texts written again. A fault of the text is returned and writes nowhere.
 ghost use mathlib.Core.Path.{_≡_};
 ghost use Rattle.jobs.specs.declared.Status.{Status};
 ghost use Rattle.jobs.specs.Words.{faultNumber};
 ghost use Rattle.writing.specs.Wrote.{Wrote};
 ghost use Rattle.writing.specs.Answer.{Leaves};
-ghost use Rattle.desk.specs.Desk.{faultBytes, resultBytes, answerResult, checkedJob, answerJob, runBytes, answerSolve};
+ghost use Rattle.desk.specs.Desk.{faultBytes, jobStatus, jobText, resultStatus, resultText, runStatus, runText, solveStatus, solveText, toldLength, toldIn};
 use jobs::Fault;
 use jobs::Job;
-use jobs::Result;
 use jobs::Status;
-use jobs::check_result::check_result;
-use jobs::checks::check_job;
 use writing::Written;
 use writing::put_count_line;
+
+// A result text, read and written again.
+pub fn rewrite_result(text: &[u8], out: &mut [u8]) -> Written
+    ensures { λ a. ⌜ Leaves (resultStatus (now (text .entry))) (resultText (now (text .entry))) (now (out .entry)) (now (out .exit)) a ⌝ }
+{
+    let read = resulttext::read_result(text);
+    let status = read.status;
+    match status {
+        Status::Refused(f, line) => Written {
+            status: Status::Refused(f, line),
+            len: 0,
+        },
+        Status::Done => resultwrite::write_result(read.result, out),
+    }
+}
+
+// A job text, read and written again.
+pub fn rewrite_job(text: &[u8], out: &mut [u8]) -> Written
+    ensures { λ a. ⌜ Leaves (jobStatus (now (text .entry))) (jobText (now (text .entry))) (now (out .entry)) (now (out .exit)) a ⌝ }
+{
+    let read = jobtext::read_job(text);
+    let status = read.status;
+    match status {
+        Status::Refused(f, line) => Written {
+            status: Status::Refused(f, line),
+            len: 0,
+        },
+        Status::Done => jobwrite::write_job(read.job, out),
+    }
+}
+
+fn write_run(j: Job, out: &mut [u8]) -> Written
+    ensures { λ a. ⌜ Leaves (runStatus j) (runText j) (now (out .entry)) (now (out .exit)) a ⌝ }
+{
+    let answer = run::run(j);
+    let status = answer.status;
+    match status {
+        Status::Refused(f, line) => Written {
+            status: Status::Refused(f, line),
+            len: 0,
+        },
+        Status::Done => resultwrite::write_result(answer.result, out),
+    }
+}
+
+// A job text, answered by the text of its result.
+pub fn solve(text: &[u8], out: &mut [u8]) -> Written
+    ensures { λ a. ⌜ Leaves (solveStatus (now (text .entry))) (solveText (now (text .entry))) (now (out .entry)) (now (out .exit)) a ⌝ }
+{
+    let read = jobtext::read_job(text);
+    let status = read.status;
+    match status {
+        Status::Refused(f, line) => Written {
+            status: Status::Refused(f, line),
+            len: 0,
+        },
+        Status::Done => write_run(read.job, out),
+    }
+}
 
 pub fn fault_number(f: Fault) -> u64
     ensures { λ r. ⌜ r ≡ faultNumber f ⌝ }
@@ -37,88 +93,14 @@ fn put_fault(buf: &mut [u8], f: Fault, line: u64) -> usize
     put_count_line(buf, a, b"line=", line)
 }
 
-// Measured first, as every text is, so that nothing is written where it does not fit.
-fn write_fault(f: Fault, line: u64, out: &mut [u8]) -> Written
-    ensures { λ a. ⌜ Leaves Status.Done (faultBytes (Status.Refused f line)) (now (out .entry)) (now (out .exit)) a ⌝ }
+// How many bytes of the buffer tell the answer that stands in it: a text as it is, a fault by two lines.
+pub fn tell(a: Written, out: &mut [u8]) -> usize
+    ensures length { λ r. ⌜ r ≡ toldLength (a .status) (a .len) ⌝ }
+    ensures bytes { λ _. ⌜ now (out .exit) ≡ toldIn (a .status) (now (out .entry)) ⌝ }
 {
-    let mut scratch = [0u8; 1];
-    let len = put_fault(&mut scratch, f, line);
-    if out.len() < len {
-        return Written {
-            status: Status::Refused(Fault::ShortBuffer, 0),
-            len: 0,
-        };
-    }
-    put_fault(out, f, line);
-    Written {
-        status: Status::Done,
-        len,
-    }
-}
-
-fn write_checked(r: Result, out: &mut [u8]) -> Written
-    ensures { λ a. ⌜ Leaves Status.Done (resultBytes r) (now (out .entry)) (now (out .exit)) a ⌝ }
-{
-    let status = check_result(r);
+    let status = a.status;
     match status {
-        Status::Refused(f, line) => write_fault(f, line, out),
-        Status::Done => resultwrite::write_result(r, out),
-    }
-}
-
-// A result text, read and written again.
-pub fn rewrite_result(text: &[u8], out: &mut [u8]) -> Written
-    ensures { λ a. ⌜ Leaves Status.Done (answerResult (now (text .entry))) (now (out .entry)) (now (out .exit)) a ⌝ }
-{
-    let read = resulttext::read_result(text);
-    let status = read.status;
-    match status {
-        Status::Refused(f, line) => write_fault(f, line, out),
-        Status::Done => write_checked(read.result, out),
-    }
-}
-
-fn write_checked_job(j: Job, out: &mut [u8]) -> Written
-    ensures { λ a. ⌜ Leaves Status.Done (checkedJob j) (now (out .entry)) (now (out .exit)) a ⌝ }
-{
-    let status = check_job(j);
-    match status {
-        Status::Refused(f, line) => write_fault(f, line, out),
-        Status::Done => jobwrite::write_job(j, out),
-    }
-}
-
-// A job text, read and written again.
-pub fn rewrite_job(text: &[u8], out: &mut [u8]) -> Written
-    ensures { λ a. ⌜ Leaves Status.Done (answerJob (now (text .entry))) (now (out .entry)) (now (out .exit)) a ⌝ }
-{
-    let read = jobtext::read_job(text);
-    let status = read.status;
-    match status {
-        Status::Refused(f, line) => write_fault(f, line, out),
-        Status::Done => write_checked_job(read.job, out),
-    }
-}
-
-fn write_run(j: Job, out: &mut [u8]) -> Written
-    ensures { λ a. ⌜ Leaves Status.Done (runBytes j) (now (out .entry)) (now (out .exit)) a ⌝ }
-{
-    let answer = run::run(j);
-    let status = answer.status;
-    match status {
-        Status::Refused(f, line) => write_fault(f, line, out),
-        Status::Done => write_checked(answer.result, out),
-    }
-}
-
-// A job text, answered by the text of its result.
-pub fn solve(text: &[u8], out: &mut [u8]) -> Written
-    ensures { λ a. ⌜ Leaves Status.Done (answerSolve (now (text .entry))) (now (out .entry)) (now (out .exit)) a ⌝ }
-{
-    let read = jobtext::read_job(text);
-    let status = read.status;
-    match status {
-        Status::Refused(f, line) => write_fault(f, line, out),
-        Status::Done => write_run(read.job, out),
+        Status::Refused(f, line) => put_fault(out, f, line),
+        Status::Done => a.len,
     }
 }

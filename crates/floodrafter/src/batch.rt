@@ -51,7 +51,8 @@ fn bad_text() -> bool {
 
 fn respond(op: Op, text: &[u8]) {
     let mut out = io::buffer();
-    let k = reply(op, text, &mut out);
+    let a = reply(op, text, &mut out);
+    let k = desk::tell(a, &mut out);
     let n = fitted(k, &out);
     io::print_decimal(STDOUT_FILENO, n as u64);
     io::write_all(STDOUT_FILENO, b"\n");

@@ -1,8 +1,11 @@
 // The program floodrafter: texts in, texts out, over the proved desk.
 mod batch;
 mod people;
+mod places;
 mod reading;
 mod requests;
+mod sentences;
+mod slips;
 
 use libc::STDIN_FILENO;
 use libc::STDOUT_FILENO;

@@ -3,73 +3,40 @@ use crate::reading::fill;
 use crate::reading::fitted;
 use crate::requests::Op;
 use crate::requests::reply;
-use jobs::Fault;
+use crate::sentences::expected;
+use crate::sentences::say;
+use crate::sentences::say_number;
 use jobs::Status;
-use libc::STDERR_FILENO;
 use libc::STDOUT_FILENO;
 use sizes::TEXT;
 
-fn say(words: &[u8]) {
-    io::write_all(STDERR_FILENO, words);
-}
-
-// What document 01 expects where the fault is.
-fn expected(f: Fault) {
-    match f {
-        Fault::LongText => say(b"the text is longer than it may be\n"),
-        Fault::Spelling => say(
-            b"the line is missing, extra, out of its place or not spelled as it must be\n",
-        ),
-        Fault::Unknowns => say(b"the number of unknowns is not one that is taken\n"),
-        Fault::Beyond => say(b"a number is beyond its limits\n"),
-        Fault::Crossed => say(b"a high end is below its low end\n"),
-        Fault::Terms => say(
-            b"there are too many terms, a zero coefficient, too high a degree, or terms not in strictly falling order of their exponents\n",
-        ),
-        Fault::ShortBuffer => say(b"the answer is longer than its buffer\n"),
-        Fault::Steps => say(b"the number of steps is beyond its limits\n"),
-    }
-}
-
-fn explain(status: Status, name: &[u8]) {
+// On standard error, as `job.txt:8: fault 6: ..`.
+fn explain(op: Op, status: Status, name: &[u8], text: &[u8]) {
     match status {
         Status::Done => {}
         Status::Refused(f, line) => {
             say(name);
-            say(b":");
-            io::print_decimal(STDERR_FILENO, line);
+            if line > 0 {
+                say(b":");
+                say_number(line);
+            }
             say(b": fault ");
-            io::print_decimal(STDERR_FILENO, desk::fault_number(f));
+            say_number(desk::fault_number(f));
             say(b": ");
-            expected(f);
+            expected(op, f, line, text);
+            say(b"\n");
         }
     }
 }
 
-// The text's own status: the run of a job that was read has no fault of its own.
-fn status_of(op: Op, text: &[u8]) -> Status {
-    match op {
-        Op::Solve => {
-            let r = jobtext::read_job(text);
-            r.status
-        }
-        Op::Job => {
-            let r = jobtext::read_job(text);
-            r.status
-        }
-        Op::Result => {
-            let r = resulttext::read_result(text);
-            r.status
-        }
-        Op::Unknown => Status::Done,
-    }
-}
-
-fn respond(op: Op, text: &[u8]) {
+fn respond(op: Op, text: &[u8]) -> Status {
     let mut out = io::buffer();
-    let k = reply(op, text, &mut out);
+    let a = reply(op, text, &mut out);
+    let status = a.status;
+    let k = desk::tell(a, &mut out);
     let n = fitted(k, &out);
     io::write_all(STDOUT_FILENO, &out[..n]);
+    status
 }
 
 // Of a text that is too long, one byte more than may be is read.
@@ -77,9 +44,8 @@ pub fn one(op: Op, fd: i32, name: &[u8]) {
     let mut buf = io::buffer();
     let k = fill(fd, TEXT + 1, &mut buf);
     let n = fitted(k, &buf);
-    respond(op, &buf[..n]);
-    let status = status_of(op, &buf[..n]);
-    explain(status, name);
+    let status = respond(op, &buf[..n]);
+    explain(op, status, name, &buf[..n]);
 }
 
 pub fn help() {

@@ -1,5 +1,8 @@
 // What is asked: an operation on a text.
+use jobs::Status;
+use termtext::all_digits;
 use text::starts;
+use writing::Written;
 
 pub enum Op {
     Solve,
@@ -22,24 +25,6 @@ fn longer(length: u64, digit: u8) -> u64 {
     length * 10 + digit as u64
 }
 
-fn is_digit(b: u8) -> bool {
-    if b < b'0' {
-        return false;
-    }
-    b <= b'9'
-}
-
-fn all_digits(line: &[u8], from: usize) -> bool {
-    let mut i = from;
-    while i < line.len() {
-        if !is_digit(line[i]) {
-            return false;
-        }
-        i += 1;
-    }
-    true
-}
-
 // A length: one digit or more, and a leading zero stands alone.
 fn spelled(line: &[u8], from: usize) -> bool {
     if line.len() <= from {
@@ -48,7 +33,7 @@ fn spelled(line: &[u8], from: usize) -> bool {
     if line[from] == b'0' {
         return line.len() - from == 1;
     }
-    all_digits(line, from)
+    all_digits(&line[from..])
 }
 
 fn length_of(line: &[u8], from: usize) -> u64 {
@@ -91,21 +76,14 @@ pub fn request_of(line: &[u8]) -> Request {
     unknown()
 }
 
-// The answer's bytes are at the start of the buffer, and this many.
-pub fn reply(op: Op, text: &[u8], out: &mut [u8]) -> usize {
+pub fn reply(op: Op, text: &[u8], out: &mut [u8]) -> Written {
     match op {
-        Op::Solve => {
-            let a = desk::solve(text, out);
-            a.len
-        }
-        Op::Job => {
-            let a = desk::rewrite_job(text, out);
-            a.len
-        }
-        Op::Result => {
-            let a = desk::rewrite_result(text, out);
-            a.len
-        }
-        Op::Unknown => 0,
+        Op::Solve => desk::solve(text, out),
+        Op::Job => desk::rewrite_job(text, out),
+        Op::Result => desk::rewrite_result(text, out),
+        Op::Unknown => Written {
+            status: Status::Done,
+            len: 0,
+        },
     }
 }

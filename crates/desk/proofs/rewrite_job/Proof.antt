@@ -1,7 +1,7 @@
 -- `desk::rewrite_job` meets its contract.
 use borrow.Author.Needs.{needs}
-use Rattle.desk.specs.Desk.{answerJob}
-use Rattle.desk.proofs.Told.{told-text, told-fault}
+use Rattle.desk.specs.Desk.{jobStatus, jobText}
+use Rattle.desk.proofs.Told.{read-bad, read-good}
 use Rattle.desk.proofs.rewrite_job.Statement.{statement}
 use Rattle.desk.proofs.rewrite_job.Tie as tie
 
@@ -11,30 +11,23 @@ read-job-requires c κs = search needs
 enum-known-status : tie.Need-enum-known-status
 enum-known-status c = search needs
 
-write-fault-requires : tie.Need-write-fault-requires
-write-fault-requires c κs = search needs
-
 enum-told : tie.Need-enum-told
 enum-told c = search needs
 
-write-checked-job-requires : tie.Need-write-checked-job-requires
-write-checked-job-requires c κs = search needs
+write-job-requires : tie.Need-write-job-requires
+write-job-requires c κs = search needs
+
+returns : tie.Need-returns
+unfolding jobStatus jobText
+returns c = rw (← c .before .before .before .read-job .ensures) (read-bad _ (c .before .status .given .1))
 
 same-length : tie.Need-same-length
 same-length c = search needs
 
-returns : tie.Need-returns
-unfolding answerJob
-returns c =
-    rw (← c .before .before .before .before .before .before .before .read-job .ensures) (told-fault _ (c .before .before .before .before .before .status .given .1) (c .before .before .write-fault .ensures))
-
-same-length-2 : tie.Need-same-length-2
-same-length-2 c = search needs
-
 returns-2 : tie.Need-returns-2
-unfolding answerJob
+unfolding jobStatus jobText
 returns-2 c =
-    rw (← c .before .before .before .before .before .before .read-job .ensures) (told-text (c .before .before .before .before .enum-told .given .1) (c .before .before .write-checked-job .ensures))
+    rw (← c .before .before .before .before .before .before .read-job .ensures) (read-good (c .before .before .before .before .enum-told .given .1) (c .before .before .write-job .ensures))
 
 pub rewrite-job-spec : {M : Type 1} → statement M
 rewrite-job-spec =
@@ -42,10 +35,8 @@ rewrite-job-spec =
     (tie.spec
     read-job-requires
     enum-known-status
-    write-fault-requires
     enum-told
-    write-checked-job-requires
-    same-length
+    write-job-requires
     returns
-    same-length-2
+    same-length
     returns-2)

@@ -1,0 +1,76 @@
+// For C: a text is a pointer and a length, an answer three numbers. `include/floodrafter.h` is the other side.
+ghost use mathlib.Core.Path.{_≡_};
+ghost use Rattle.jobtext.specs.JobText.{readJob};
+ghost use Rattle.resulttext.specs.ResultText.{readResult};
+ghost use Rattle.desk.specs.Desk.{jobStatus, jobText, resultStatus, resultText, solveStatus, solveText};
+ghost use Rattle.floodrafter_c.specs.Numbers.{numbersOf, checked, Gives};
+use jobs::Status;
+use writing::Written;
+
+// `floodrafter_answer` of the header.
+#[repr(C)]
+pub struct Answer {
+    pub fault: u64,
+    pub line: u64,
+    pub len: usize,
+}
+
+fn numbers(w: Written) -> Answer
+    ensures { λ a. ⌜ a ≡ numbersOf w ⌝ }
+{
+    let status = w.status;
+    match status {
+        Status::Done => Answer {
+            fault: 0,
+            line: 0,
+            len: w.len,
+        },
+        Status::Refused(f, line) => Answer {
+            fault: desk::fault_number(f),
+            line,
+            len: w.len,
+        },
+    }
+}
+
+#[no_mangle]
+pub extern "C" fn floodrafter_solve(text: &[u8], out: &mut [u8]) -> Answer
+    ensures { λ a. ⌜ Gives (solveStatus (now (text .entry))) (solveText (now (text .entry))) (now (out .entry)) (now (out .exit)) a ⌝ }
+{
+    let w = desk::solve(text, out);
+    numbers(w)
+}
+
+#[no_mangle]
+pub extern "C" fn floodrafter_rewrite_job(text: &[u8], out: &mut [u8]) -> Answer
+    ensures { λ a. ⌜ Gives (jobStatus (now (text .entry))) (jobText (now (text .entry))) (now (out .entry)) (now (out .exit)) a ⌝ }
+{
+    let w = desk::rewrite_job(text, out);
+    numbers(w)
+}
+
+#[no_mangle]
+pub extern "C" fn floodrafter_rewrite_result(text: &[u8], out: &mut [u8]) -> Answer
+    ensures { λ a. ⌜ Gives (resultStatus (now (text .entry))) (resultText (now (text .entry))) (now (out .entry)) (now (out .exit)) a ⌝ }
+{
+    let w = desk::rewrite_result(text, out);
+    numbers(w)
+}
+
+#[no_mangle]
+pub extern "C" fn floodrafter_check_job(text: &[u8]) -> Answer
+    ensures { λ a. ⌜ a ≡ checked (readJob (now (text .entry)) .status) ⌝ }
+{
+    let read = jobtext::read_job(text);
+    let status = read.status;
+    numbers(Written { status, len: 0 })
+}
+
+#[no_mangle]
+pub extern "C" fn floodrafter_check_result(text: &[u8]) -> Answer
+    ensures { λ a. ⌜ a ≡ checked (readResult (now (text .entry)) .status) ⌝ }
+{
+    let read = resulttext::read_result(text);
+    let status = read.status;
+    numbers(Written { status, len: 0 })
+}
