@@ -1,0 +1,201 @@
+/* Times the library beside the peer, after both have given the same answers: bench REQUESTS, a file of requests. */
+#define _POSIX_C_SOURCE 200809L
+
+#include <stdio.h>
+#include <stdlib.h>
+#include <string.h>
+#include <time.h>
+
+#include "jobs.h"
+#include "peer.h"
+#include "same.h"
+
+enum { LIBRARY, PEER, SOLVERS };
+
+static const double step_target = 1.5, reading_target = 2.0;
+
+/* Noise only ever adds time: the least of some rounds stands. */
+enum { ROUNDS = 9 };
+static const double round_seconds = 0.008;
+
+typedef floodrafter_answer solve_entry(const uint8_t *, size_t, uint8_t *, size_t);
+typedef floodrafter_answer check_entry(const uint8_t *, size_t);
+
+static solve_entry *const solve_entries[SOLVERS] = {floodrafter_solve, peer_solve};
+static check_entry *const check_entries[SOLVERS] = {floodrafter_check_job, peer_check_job};
+
+enum entry { SOLVE, CHECK };
+
+/* Seconds of one call, or of one step, of each solver. */
+struct times {
+    double of[SOLVERS];
+};
+
+static double now(void)
+{
+    struct timespec t;
+    clock_gettime(CLOCK_MONOTONIC, &t);
+    return (double)t.tv_sec + 1e-9 * (double)t.tv_nsec;
+}
+
+static double seconds_of(int solver, enum entry entry, const struct text *text, long calls)
+{
+    static uint8_t out[FLOODRAFTER_TEXT_MAX];
+    double start = now();
+    for (long k = 0; k < calls; k++) {
+        if (entry == SOLVE)
+            solve_entries[solver](text->bytes, text->len, out, sizeof out);
+        else
+            check_entries[solver](text->bytes, text->len);
+    }
+    return now() - start;
+}
+
+/* How many calls fill a round. */
+static long calls_of(int solver, enum entry entry, const struct text *text)
+{
+    long calls = 1;
+    while (seconds_of(solver, entry, text, calls) < round_seconds / 2)
+        calls *= 2;
+    return calls * 2;
+}
+
+/* The solvers take turns, so that what slows the machine for a while slows both. */
+static struct times measure(enum entry entry, const struct text *text)
+{
+    struct times best;
+    long calls[SOLVERS];
+    for (int solver = 0; solver < SOLVERS; solver++) {
+        calls[solver] = calls_of(solver, entry, text);
+        best.of[solver] = 1e9;
+    }
+    for (int round = 0; round < ROUNDS; round++) {
+        for (int solver = 0; solver < SOLVERS; solver++) {
+            double one = seconds_of(solver, entry, text, calls[solver]) / (double)calls[solver];
+            if (one < best.of[solver])
+                best.of[solver] = one;
+        }
+    }
+    return best;
+}
+
+static double ratio(struct times t)
+{
+    return t.of[LIBRARY] / t.of[PEER];
+}
+
+/* The steps that a job's answer reports. */
+static long steps_of(const struct text *text)
+{
+    uint8_t out[FLOODRAFTER_TEXT_MAX + 1];
+    floodrafter_answer answer = peer_solve(text->bytes, text->len, out, FLOODRAFTER_TEXT_MAX);
+    out[answer.len] = '\0';
+    const char *steps = strstr((const char *)out, "steps=");
+    return steps == NULL ? 0 : strtol(steps + strlen("steps="), NULL, 10);
+}
+
+/* One step: a long run less the same job with no steps. */
+static struct times measure_step(const struct text *run, const struct text *idle)
+{
+    struct times whole = measure(SOLVE, run), rest = measure(SOLVE, idle);
+    double steps = (double)steps_of(run);
+    for (int solver = 0; solver < SOLVERS; solver++)
+        whole.of[solver] = (whole.of[solver] - rest.of[solver]) / steps;
+    return whole;
+}
+
+static void must_be_same(const struct text *text)
+{
+    if (!same_answers(text->bytes, text->len))
+        exit(1);
+}
+
+/* The greatest ratios of the table. */
+struct worst {
+    double step, solve, reading;
+};
+
+static void keep_worst(double *worst, double ratio)
+{
+    if (*worst < ratio)
+        *worst = ratio;
+}
+
+static void print_reading(const struct text *text, struct worst *worst)
+{
+    struct times reading = measure(CHECK, text);
+    double megabytes = 1e-6 * (double)text->len;
+    printf(" | %5zu %8.1f %8.1f %6.2f\n", text->len, megabytes / reading.of[LIBRARY], megabytes / reading.of[PEER], ratio(reading));
+    fflush(stdout);
+    keep_worst(&worst->reading, ratio(reading));
+}
+
+static void print_sort(const struct sort *sort, struct worst *worst)
+{
+    struct text run, idle, soon;
+    write_job(sort, LATE, 1000, &run);
+    write_job(sort, LATE, 0, &idle);
+    write_job(sort, SOON, 8, &soon);
+    struct times step = measure_step(&run, &idle), solve = measure(SOLVE, &soon);
+    char terms[16] = "";
+    if (sort->terms > 0)
+        snprintf(terms, sizeof terms, "%d terms", sort->terms);
+    printf("%-6s n=%d %8s", sort->kind, sort->n, terms);
+    printf(" | %5ld %9.0f %9.0f %6.2f", steps_of(&run), 1e9 * step.of[LIBRARY], 1e9 * step.of[PEER], ratio(step));
+    printf(" | %5ld %9.0f %9.0f %6.2f", steps_of(&soon), 1 / solve.of[LIBRARY], 1 / solve.of[PEER], ratio(solve));
+    print_reading(&soon, worst);
+    keep_worst(&worst->step, ratio(step));
+    keep_worst(&worst->solve, ratio(solve));
+}
+
+static void print_longest(const char *name, int extra, struct worst *worst)
+{
+    struct text text;
+    write_longest_job(extra, &text);
+    printf("%-19s | %32s | %32s", name, "", "");
+    print_reading(&text, worst);
+}
+
+/* Terms that make the longest job's text 2,047 bytes long. */
+enum { MORE_TERMS = 63 };
+
+static void check_all(const char *requests)
+{
+    size_t count;
+    if (!same_answers_in_file(requests, &count))
+        exit(1);
+    struct text text;
+    for (size_t s = 0; s < sort_count; s++) {
+        write_job(&sorts[s], LATE, 1000, &text);
+        must_be_same(&text);
+        write_job(&sorts[s], LATE, 0, &text);
+        must_be_same(&text);
+        write_job(&sorts[s], SOON, 8, &text);
+        must_be_same(&text);
+    }
+    write_longest_job(0, &text);
+    must_be_same(&text);
+    write_longest_job(MORE_TERMS, &text);
+    must_be_same(&text);
+    printf("The library and the peer answer alike: %zu requests of the file, %zu jobs of the bench.\n\n", count, 3 * sort_count + 2);
+}
+
+int main(int count, char **words)
+{
+    if (count != 2) {
+        fputs("usage: bench REQUESTS\n", stderr);
+        return 1;
+    }
+    check_all(words[1]);
+    struct worst worst = {0, 0, 0};
+    printf("A ratio is the time of the library over the time of the peer. Targets: step %.1f, reading %.1f.\n\n", step_target, reading_target);
+    printf("%-19s | %-32s | %-32s | %-30s\n", "", "nanoseconds a step", "jobs a second, text to text", "reading, megabytes a second");
+    printf("%-19s | %5s %9s %9s %6s | %5s %9s %9s %6s | %5s %8s %8s %6s\n", "job", "steps", "library", "peer", "ratio", "steps", "library", "peer",
+           "ratio", "bytes", "library", "peer", "ratio");
+    for (size_t s = 0; s < sort_count; s++)
+        print_sort(&sorts[s], &worst);
+    print_longest("longest job", 0, &worst);
+    print_longest("long text, fault 6", MORE_TERMS, &worst);
+    printf("\nThe greatest ratios: step %.2f, text to text %.2f, reading %.2f.\n", worst.step, worst.solve, worst.reading);
+    return 0;
+}

@@ -1,0 +1,30 @@
+/* The job texts that the bench times, made from a small table. */
+#ifndef JOBS_H
+#define JOBS_H
+
+#include "floodrafter.h"
+
+struct text {
+    uint8_t bytes[FLOODRAFTER_TEXT_MAX];
+    size_t len;
+};
+
+/* A sort of job: its kind and n and, for a polynomial one, the greatest degree and the number of terms of an equation. */
+struct sort {
+    const char *kind;
+    int n, degree, terms;
+};
+
+extern const struct sort sorts[];
+extern const size_t sort_count;
+
+/* LATE: a zero at the box's lowest corner, which keeps every image from lying strictly inside, and 1/128 of the inverse: hundreds of small cuts, then stalled.
+ * SOON: a zero inside a small box and the inverse itself, as a typist would hand it in: unique after a step or two. */
+enum pace { LATE, SOON };
+
+void write_job(const struct sort *sort, enum pace pace, int steps, struct text *text);
+
+/* The longest job that is taken; with `extra` more terms in its last line, which is read to its end and then refused by 6. */
+void write_longest_job(int extra, struct text *text);
+
+#endif
