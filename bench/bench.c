@@ -137,7 +137,7 @@ static void print_sort(const struct sort *sort, struct worst *worst)
     write_job(sort, LATE, 0, &idle);
     write_job(sort, SOON, 8, &soon);
     struct times step = measure_step(&run, &idle), solve = measure(SOLVE, &soon);
-    char terms[16] = "";
+    char terms[24] = "";
     if (sort->terms > 0)
         snprintf(terms, sizeof terms, "%d terms", sort->terms);
     printf("%-6s n=%d %8s", sort->kind, sort->n, terms);

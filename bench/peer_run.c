@@ -139,18 +139,17 @@ static void image(const struct job *job, const struct interval *x, struct interv
 static bool decide(struct interval *x, const struct interval *k, size_t n, enum verdict *verdict)
 {
     bool meets = true, inside = true, same = true;
-    struct interval cut[UNKNOWNS_MAX];
     for (size_t i = 0; i < n; i++) {
         meets = meets && k[i].lo <= x[i].hi && x[i].lo <= k[i].hi;
         inside = inside && x[i].lo < k[i].lo && k[i].hi < x[i].hi;
         same = same && k[i].lo <= x[i].lo && x[i].hi <= k[i].hi;
-        cut[i] = (struct interval){greatest(x[i].lo, k[i].lo), least(x[i].hi, k[i].hi)};
     }
     *verdict = !meets ? NONE : inside ? UNIQUE : STALLED;
     if (!meets || same)
         return true;
-    /* Strictly inside x, k is its own cut with x. */
-    memcpy(x, cut, n * sizeof *x);
+    /* Where k lies inside x, its cut with x is k itself. */
+    for (size_t i = 0; i < n; i++)
+        x[i] = (struct interval){greatest(x[i].lo, k[i].lo), least(x[i].hi, k[i].hi)};
     return inside;
 }
 
