@@ -1,0 +1,37 @@
+/* Answers the job text in a file: the result on standard output, or the fault on standard error and exit status 1. */
+#include "floodrafter.h"
+
+#include <inttypes.h>
+#include <stdio.h>
+
+int main(int argc, char **argv)
+{
+    /* one byte more than a text may have, so that a longer file gets its fault */
+    uint8_t text[FLOODRAFTER_TEXT_MAX + 1];
+    uint8_t out[FLOODRAFTER_TEXT_MAX];
+
+    if (argc != 2) {
+        fprintf(stderr, "usage: answer FILE\n");
+        return 2;
+    }
+    FILE *file = fopen(argv[1], "rb");
+    if (file == NULL) {
+        perror(argv[1]);
+        return 2;
+    }
+    size_t len = fread(text, 1, sizeof text, file);
+    int unread = ferror(file);
+    fclose(file);
+    if (unread) {
+        fprintf(stderr, "%s: cannot be read\n", argv[1]);
+        return 2;
+    }
+
+    floodrafter_answer a = floodrafter_solve(text, len, out, sizeof out);
+    if (a.fault != FLOODRAFTER_DONE) {
+        fprintf(stderr, "%s:%" PRIu64 ": fault %" PRIu64 "\n", argv[1], a.line, a.fault);
+        return 1;
+    }
+    fwrite(out, 1, a.len, stdout);
+    return 0;
+}
