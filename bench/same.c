@@ -1,10 +1,10 @@
 #include "same.h"
 
 #include <stdio.h>
-#include <stdlib.h>
 #include <string.h>
 
 #include "peer.h"
+#include "requests.h"
 
 /* The room behind the lent buffer shows a byte written too far. */
 enum { ROOM = 64, OLD_BYTE = 0xA5 };
@@ -61,43 +61,13 @@ bool same_answers(const uint8_t *text, size_t text_len)
            (same_solved(text, text_len, answer.len, &again) && same_solved(text, text_len, answer.len - 1, &again));
 }
 
-/* A whole file, with a NUL after it. */
-static char *contents(const char *name, size_t *len)
-{
-    FILE *file = fopen(name, "rb");
-    long size = -1;
-    if (file != NULL && fseek(file, 0, SEEK_END) == 0)
-        size = ftell(file);
-    char *bytes = size < 0 ? NULL : malloc((size_t)size + 1);
-    if (bytes == NULL || fseek(file, 0, SEEK_SET) != 0 || fread(bytes, 1, (size_t)size, file) != (size_t)size) {
-        fprintf(stderr, "bench: %s cannot be read\n", name);
-        exit(1);
-    }
-    fclose(file);
-    bytes[size] = '\0';
-    *len = (size_t)size;
-    return bytes;
-}
-
 bool same_answers_in_file(const char *name, size_t *count)
 {
-    size_t len;
-    char *bytes = contents(name, &len);
-    const char *at = bytes, *end = bytes + len;
-    bool same = true;
-    *count = 0;
-    while (same && at < end) {
-        char *after = NULL;
-        const char *space = memchr(at, ' ', (size_t)(end - at));
-        size_t text_len = space == NULL ? 0 : strtoul(space + 1, &after, 10);
-        if (after == NULL || *after != '\n' || (size_t)(end - after - 1) < text_len) {
-            fprintf(stderr, "bench: %s is no file of requests\n", name);
-            exit(1);
-        }
-        same = same_answers((const uint8_t *)after + 1, text_len);
-        at = after + 1 + text_len;
-        *count += 1;
+    struct bytes requests = whole_file(name);
+    struct request r;
+    for (*count = 0; next_request(&requests, &r); *count += 1) {
+        if (!same_answers(r.text.at, r.text.len))
+            return false;
     }
-    free(bytes);
-    return same;
+    return true;
 }

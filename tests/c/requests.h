@@ -1,0 +1,27 @@
+/* The files that the program's cases stand in: requests, each a line `OP LENGTH` and LENGTH bytes, and answers, each a line with its length and its bytes. */
+#ifndef REQUESTS_H
+#define REQUESTS_H
+
+#include <stdbool.h>
+#include <stddef.h>
+#include <stdint.h>
+
+struct bytes {
+    const uint8_t *at;
+    size_t len;
+};
+
+struct request {
+    char word[8];
+    struct bytes text;
+};
+
+/* Each ends the program with a message and status 2 where the file is not what it should be. */
+struct bytes whole_file(const char *path);
+
+/* Takes the next request; false where none is left. */
+bool next_request(struct bytes *requests, struct request *r);
+
+struct bytes next_answer(struct bytes *answers);
+
+#endif
