@@ -1,6 +1,5 @@
 // Where things stand in a job text whose line at fault is told: the lines before it are right.
 ghost use Prim.Native.Nat.{_≤_};
-ghost use lib.ListN.{length};
 ghost use Rattle.sizes.specs.Sizes.{nMax};
 use crate::reading::fitted;
 use jobs::Kind;

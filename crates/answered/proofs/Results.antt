@@ -1,0 +1,113 @@
+-- The result of an accepted job has no fault: its box lies in the starting box, with its ends in order, and no more steps are counted than were allowed.
+-- Its text is no longer than a text may be.
+use Prim.Native.Nat.{ℕ, _+_, _≤_, _<_}
+use native.Mathlib.Omega.{arith}
+use mathlib.Core.Path.{_≡_, refl}
+use mathlib.Core.List.{List}
+use lib.ListN.{length, take, getD, length-take}
+use lib.IntN.{pos}
+use Rattle.sizes.specs.Sizes.{nMax, textMax, endMax}
+use Rattle.integers.specs.Ranges.{Within}
+use Rattle.integers.proofs.Parts.{zorder}
+use Rattle.integers.proofs.Ranges.{within, within-lo, within-hi}
+use Rattle.lists.proofs.Tab.{getD-tab}
+use Rattle.intervals.specs.Places.{sideAt}
+use Rattle.intervals.proofs.Places.{side-made}
+use Rattle.jobs.specs.Checks.{checkJob}
+use Rattle.jobs.specs.CheckResult.{checkResult}
+use Rattle.jobs.specs.Accepted.{Accepted}
+use Rattle.jobs.proofs.AcceptedLaws.{check-done}
+use Rattle.jobs.proofs.RangeLaws.{within-all, ordered-all}
+use Rattle.jobs.proofs.CheckResultLaws.{Sound, sound, unfaulted}
+use Rattle.jobs.specs.declared.Job.{Job}
+use Rattle.jobs.specs.declared.Result.{Result}
+use Rattle.jobs.specs.declared.Status.{Status}
+use Rattle.systems.specs.Kinds.{equationOf}
+use Rattle.run.specs.Job.{startSide, startOf, inverseOf, outcomeOf, lowEnds, highEnds, resultOf, runJob}
+use Rattle.promises.specs.Claims.{Ordered, BoxInside}
+use Rattle.promises.proofs.Jobs.{systemOf, start-order}
+use Rattle.promises.proofs.Runs.{run-count, run-shrinks, run-ordered}
+use Rattle.writing.proofs.Lines.{count-line-short, list-line-short, end-length, end-none}
+use Rattle.resulttext.specs.Words.{jobKey, stepsKey, loKey, hiKey}
+use Rattle.resultwrite.specs.Show.{resultLines, showResult}
+use Rattle.resultwrite.proofs.Ready.{verdict-line-short}
+
+module _ (j : Job) (checked : checkJob j ≡ Status.Done) where
+  accepted : Accepted j
+  accepted = check-done j checked
+
+  inside : BoxInside (j .n) (outcomeOf j .sides) (startOf j)
+  unfolding outcomeOf
+  inside = run-shrinks (j .n) (equationOf j) (inverseOf j) (accepted .few) (j .steps) 0 (startOf j)
+
+  in-order : Ordered (j .n) (sideAt (outcomeOf j .sides))
+  unfolding outcomeOf
+  in-order = run-ordered (j .n) (equationOf j) (inverseOf j) (accepted .few) (systemOf j accepted .degrees) (j .steps) 0 (startOf j) (start-order j accepted)
+
+  few-steps : outcomeOf j .steps ≤ 0 + j .steps
+  unfolding outcomeOf
+  few-steps = run-count (j .n) (equationOf j) (inverseOf j) (j .steps) 0 (startOf j)
+
+  start-at : (k : ℕ) → k < j .n → sideAt (startOf j) k ≡ startSide j k
+  unfolding startOf
+  start-at k l = side-made (j .n) (accepted .few) (startSide j) refl k l
+
+  module _ (k : ℕ) (l : k < j .n) where
+    low : Within (sideAt (outcomeOf j .sides) k .lo) endMax
+    low =
+        let box = rw (start-at k l) at (inside .each k l) in
+        within _ endMax (omega (zorder, box .low, within-lo (accepted .low k l)))
+        (omega (zorder, in-order k l, box .high, within-hi (accepted .high k l)))
+
+    high : Within (sideAt (outcomeOf j .sides) k .hi) endMax
+    high =
+        let box = rw (start-at k l) at (inside .each k l) in
+        within _ endMax (omega (zorder, in-order k l, box .low, within-lo (accepted .low k l)))
+        (omega (zorder, box .high, within-hi (accepted .high k l)))
+
+    low-at : getD (lowEnds (j .n) (outcomeOf j .sides)) k (pos 0) ≡ sideAt (outcomeOf j .sides) k .lo
+    low-at = getD-tab (pos 0) nMax (j .n) (λ k. sideAt (outcomeOf j .sides) k .lo) (pos 0) k l (accepted .few)
+
+    high-at : getD (highEnds (j .n) (outcomeOf j .sides)) k (pos 0) ≡ sideAt (outcomeOf j .sides) k .hi
+    high-at = getD-tab (pos 0) nMax (j .n) (λ k. sideAt (outcomeOf j .sides) k .hi) (pos 0) k l (accepted .few)
+
+  run-sound : Sound (resultOf j (outcomeOf j))
+  unfolding resultOf
+  run-sound = record {
+    number = accepted .number;
+    steps = omega (arith, few-steps, accepted .steps);
+    some = accepted .some;
+    few = accepted .few;
+    low = within-all (lowEnds (j .n) (outcomeOf j .sides)) (j .n) endMax (λ k l. rw (low-at k l) (low k l));
+    high = within-all (highEnds (j .n) (outcomeOf j .sides)) (j .n) endMax (λ k l. rw (high-at k l) (high k l));
+    ordered = ordered-all (lowEnds (j .n) (outcomeOf j .sides)) (highEnds (j .n) (outcomeOf j .sides)) (j .n)
+        (λ k l. rw (low-at k l, high-at k l) (in-order k l));
+  }
+
+  pub run-done : runJob j .status ≡ Status.Done
+  unfolding runJob
+  run-done = rw checked refl
+
+  pub run-checked : checkResult (runJob j .result) ≡ Status.Done
+  unfolding runJob
+  run-checked = rw checked (unfaulted (resultOf j (outcomeOf j)) run-sound)
+
+few-taken : {A : Type 0} (n : ℕ) (xs : List A) → length (take n xs) ≤ n
+few-taken n xs = omega (arith, length-take n xs)
+
+pub result-bytes : (r : Result) → checkResult r ≡ Status.Done → length (showResult r) ≤ textMax
+unfolding showResult resultLines
+result-bytes r e =
+    let few = sound r e .few in
+    rw (end-length _ _, end-length _ _, end-length _ _, end-length _ _, end-length _ _, end-none)
+    (omega (
+      arith,
+      count-line-short jobKey (r .number),
+      verdict-line-short (r .verdict),
+      count-line-short stepsKey (r .steps),
+      list-line-short loKey (take (r .n) (r .lo)),
+      few-taken (r .n) (r .lo),
+      list-line-short hiKey (take (r .n) (r .hi)),
+      few-taken (r .n) (r .hi),
+      few,
+    ))
