@@ -26,7 +26,7 @@ use Rattle.writing.specs.Answer.{answerOf}
 use Rattle.jobs.specs.declared.Fault.{Fault}
 use Rattle.jobs.specs.declared.Status.{Status}
 use Rattle.desk.specs.Desk.{jobStatus, jobText, resultStatus, resultText, runStatus, runText, solveStatus, solveText}
-use Rattle.answered.proofs.Results.{run-done, run-checked, result-bytes}
+use Rattle.answered.proofs.Results.{run-done, run-checked, run-short}
 
 -- what follows a reading without a fault has none
 first-only : (st next : Status) → (st ≡ Status.Done → next ≡ Status.Done) → andThen st next ≡ st
@@ -94,7 +94,7 @@ module _ (t : List ℕ) where
 
   solve-short : readJob t .status ≡ Status.Done → length (solveText t) ≤ textMax
   unfolding solveText runText
-  solve-short e = result-bytes _ (run-checked (readJob t .job) (job.read-checked t (readJob t .job) (job-read e)))
+  solve-short e = run-short (readJob t .job) (job.read-checked t (readJob t .job) (job-read e))
 
   -- a buffer of as many bytes as a text may have is never too short
   module _ (old : List ℕ) (room : textMax ≤ length old) where

@@ -3,8 +3,7 @@
 use Prim.Native.Nat.{ℕ, _+_, _≤_, _<_}
 use native.Mathlib.Omega.{arith}
 use mathlib.Core.Path.{_≡_, refl}
-use mathlib.Core.List.{List}
-use lib.ListN.{length, take, getD, length-take}
+use lib.ListN.{length, getD}
 use lib.IntN.{pos}
 use Rattle.sizes.specs.Sizes.{nMax, textMax, endMax}
 use Rattle.integers.specs.Ranges.{Within}
@@ -20,17 +19,14 @@ use Rattle.jobs.proofs.AcceptedLaws.{check-done}
 use Rattle.jobs.proofs.RangeLaws.{within-all, ordered-all}
 use Rattle.jobs.proofs.CheckResultLaws.{Sound, sound, unfaulted}
 use Rattle.jobs.specs.declared.Job.{Job}
-use Rattle.jobs.specs.declared.Result.{Result}
 use Rattle.jobs.specs.declared.Status.{Status}
 use Rattle.systems.specs.Kinds.{equationOf}
 use Rattle.run.specs.Job.{startSide, startOf, inverseOf, outcomeOf, lowEnds, highEnds, resultOf, runJob}
 use Rattle.promises.specs.Claims.{Ordered, BoxInside}
 use Rattle.promises.proofs.Jobs.{systemOf, start-order}
 use Rattle.promises.proofs.Runs.{run-count, run-shrinks, run-ordered}
-use Rattle.writing.proofs.Lines.{count-line-short, list-line-short, end-length, end-none}
-use Rattle.resulttext.specs.Words.{jobKey, stepsKey, loKey, hiKey}
-use Rattle.resultwrite.specs.Show.{resultLines, showResult}
-use Rattle.resultwrite.proofs.Ready.{verdict-line-short}
+use Rattle.resultwrite.specs.Show.{showResult}
+use Rattle.resultwrite.proofs.Ready.{result-short}
 
 module _ (j : Job) (checked : checkJob j ≡ Status.Done) where
   accepted : Accepted j
@@ -92,22 +88,5 @@ module _ (j : Job) (checked : checkJob j ≡ Status.Done) where
   unfolding runJob
   run-checked = rw checked (unfaulted (resultOf j (outcomeOf j)) run-sound)
 
-few-taken : {A : Type 0} (n : ℕ) (xs : List A) → length (take n xs) ≤ n
-few-taken n xs = omega (arith, length-take n xs)
-
-pub result-bytes : (r : Result) → checkResult r ≡ Status.Done → length (showResult r) ≤ textMax
-unfolding showResult resultLines
-result-bytes r e =
-    let few = sound r e .few in
-    rw (end-length _ _, end-length _ _, end-length _ _, end-length _ _, end-length _ _, end-none)
-    (omega (
-      arith,
-      count-line-short jobKey (r .number),
-      verdict-line-short (r .verdict),
-      count-line-short stepsKey (r .steps),
-      list-line-short loKey (take (r .n) (r .lo)),
-      few-taken (r .n) (r .lo),
-      list-line-short hiKey (take (r .n) (r .hi)),
-      few-taken (r .n) (r .hi),
-      few,
-    ))
+  pub run-short : length (showResult (runJob j .result)) ≤ textMax
+  run-short = result-short (runJob j .result) (sound (runJob j .result) run-checked .few)

@@ -1,5 +1,8 @@
 // The writer of a result text.
 ghost use mathlib.Core.List.{_++_};
+ghost use mathlib.Core.Path.{_≡_};
+ghost use lib.ListN.{length};
+ghost use lib.Dec.{leb};
 ghost use Prim.Native.Nat.{_+_, _<_, _≤_};
 ghost use Rattle.jobs.specs.declared.Status.{Status};
 ghost use Rattle.jobs.specs.CheckResult.{checkResult};
@@ -12,6 +15,7 @@ use jobs::Result;
 use jobs::Status;
 use jobs::Verdict;
 use jobs::check_result::check_result;
+use sizes::TEXT;
 use writing::Written;
 use writing::put_count_line;
 use writing::put_row_line;
@@ -45,20 +49,30 @@ fn put_result(buf: &mut [u8], r: Result) -> usize
     put_row_line(buf, d, b"hi=", hi, n)
 }
 
-// The same writer on a buffer of one byte measures the text first, so that nothing is written where it does not fit.
+// The same writer on a buffer of one byte measures the text. It need not where the room is that of any text.
+fn fits(r: Result, room: usize) -> bool
+    requires { ⌜ Ready r ⌝ }
+    ensures { λ b. ⌜ b ≡ leb (length (showResult r)) room ⌝ }
+{
+    if TEXT <= room {
+        return true;
+    }
+    let mut scratch = [0u8; 1];
+    let len = put_result(&mut scratch, r);
+    len <= room
+}
+
 fn write_ready(r: Result, out: &mut [u8]) -> Written
     requires { ⌜ Ready r ⌝ }
     ensures { λ a. ⌜ Leaves Status.Done (showResult r) (now (out .entry)) (now (out .exit)) a ⌝ }
 {
-    let mut scratch = [0u8; 1];
-    let len = put_result(&mut scratch, r);
-    if out.len() < len {
+    if !fits(r, out.len()) {
         return Written {
             status: Status::Refused(Fault::ShortBuffer, 0),
             len: 0,
         };
     }
-    put_result(out, r);
+    let len = put_result(out, r);
     Written {
         status: Status::Done,
         len,
