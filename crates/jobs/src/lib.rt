@@ -3,6 +3,7 @@ pub mod check_result;
 pub mod checks;
 pub mod ranges;
 pub mod terms;
+pub mod zero;
 
 use sizes::N;
 use sizes::TERMS;

@@ -5,15 +5,14 @@ ghost use mathlib.Core.Path.{_≡_};
 ghost use Prim.Native.Nat.{_≤_};
 ghost use lib.ListN.{length};
 ghost use Rattle.sizes.specs.Sizes.{textMax};
-ghost use Rattle.jobs.specs.Zero.{noResult};
 ghost use Rattle.resulttext.specs.Reading.{startReading, refusedWith, Limits};
 ghost use Rattle.resulttext.specs.ResultText.{readLine, atEnd, finished, readResult};
 use jobs::Fault;
 use jobs::Result;
 use jobs::Status;
 use jobs::Verdict;
+use jobs::zero::no_result;
 use lines::line_of;
-use sizes::N;
 use sizes::TEXT;
 
 // The kinds of lines in their order; End where no line is left.
@@ -54,19 +53,6 @@ pub fn read_line(s: Reading, l: &[u8]) -> Reading
     match status {
         Status::Done => line_of(s, l),
         Status::Refused(_, _) => s,
-    }
-}
-
-fn no_result() -> Result
-    ensures { λ r. ⌜ r ≡ noResult ⌝ }
-{
-    Result {
-        number: 0,
-        verdict: Verdict::None,
-        steps: 0,
-        n: 0,
-        lo: [0; N],
-        hi: [0; N],
     }
 }
 

@@ -8,6 +8,7 @@ use jobs::Job;
 use jobs::Result;
 use jobs::Status;
 use jobs::Verdict;
+use jobs::zero::no_result;
 use sizes::N;
 ghost use mathlib.Core.Path.{_≡_};
 ghost use Rattle.intervals.specs.Places.{entryAt, sideAt};
@@ -109,7 +110,7 @@ pub fn run(j: Job) -> Answer
         },
         Status::Refused(fault, line) => Answer {
             status: Status::Refused(fault, line),
-            result: values::no_result(),
+            result: no_result(),
         },
     }
 }

@@ -4,7 +4,6 @@ use intervals::Interval;
 use jobs::Job;
 use jobs::Result;
 use jobs::Row;
-use jobs::Verdict;
 use sizes::N;
 ghost use mathlib.Core.Path.{_≡_};
 ghost use Prim.Native.Nat.{_≤_};
@@ -13,7 +12,6 @@ ghost use lib.ListN.{replicate};
 ghost use Rattle.sizes.specs.Sizes.{nMax};
 ghost use Rattle.lists.specs.Loops.{tab};
 ghost use Rattle.jobs.specs.Places.{rowAt};
-ghost use Rattle.jobs.specs.Zero.{noResult};
 ghost use Rattle.run.specs.Job.{startOf, lowEnds, highEnds, resultOf};
 
 pub fn start_box(j: Job) -> [Interval; N]
@@ -89,19 +87,5 @@ pub fn result_of(j: Job, o: Outcome) -> Result
         n: n,
         lo: lo,
         hi: hi,
-    }
-}
-
-// What stands beside a fault.
-pub fn no_result() -> Result
-    ensures { λ r. ⌜ r ≡ noResult ⌝ }
-{
-    Result {
-        number: 0,
-        verdict: Verdict::None,
-        steps: 0,
-        n: 0,
-        lo: [0; N],
-        hi: [0; N],
     }
 }
