@@ -25,6 +25,8 @@ use Rattle.resultround.proofs.WriteBack as result
 use Rattle.writing.specs.Answer.{answerOf}
 use Rattle.jobs.specs.declared.Fault.{Fault}
 use Rattle.jobs.specs.declared.Status.{Status}
+use Rattle.jobtext.specs.declared.JobRead.{JobRead}
+use Rattle.resulttext.specs.declared.ResultRead.{ResultRead}
 use Rattle.desk.specs.Desk.{jobStatus, jobText, resultStatus, resultText, runStatus, runText, solveStatus, solveText}
 use Rattle.answered.proofs.Results.{run-done, run-checked, run-short}
 
@@ -55,7 +57,10 @@ module _ (t : List ℕ) where
   unfolding readJob
   job-short e = go (ltb textMax (length t)) refl e
     where
-      go : (b : Bool) → ltb textMax (length t) ≡ b → cond b (job-text.refusedWith (Status.Refused Fault.LongText 0)) (job-text.finishedCut (feeds job-text.readLine lineFeed (fresh jobs.startReading) t)) .status ≡ Status.Done
+      lines : JobRead
+      lines = job-text.finishedCut (feeds job-text.readLine lineFeed (fresh jobs.startReading) t)
+
+      go : (b : Bool) → ltb textMax (length t) ≡ b → cond b (job-text.refusedWith (Status.Refused Fault.LongText 0)) lines .status ≡ Status.Done
           → length t ≤ textMax
       go true p f = absurd (zero-one (cc))
       go false p f = ltb-false textMax (length t) p
@@ -64,7 +69,10 @@ module _ (t : List ℕ) where
   unfolding readResult
   result-short e = go (ltb textMax (length t)) refl e
     where
-      go : (b : Bool) → ltb textMax (length t) ≡ b → cond b (results.refusedWith (Status.Refused Fault.LongText 0)) (result-text.finishedCut (feeds result-text.readLine lineFeed (fresh results.startReading) t)) .status ≡ Status.Done
+      lines : ResultRead
+      lines = result-text.finishedCut (feeds result-text.readLine lineFeed (fresh results.startReading) t)
+
+      go : (b : Bool) → ltb textMax (length t) ≡ b → cond b (results.refusedWith (Status.Refused Fault.LongText 0)) lines .status ≡ Status.Done
           → length t ≤ textMax
       go true p f = absurd (zero-one (cc))
       go false p f = ltb-false textMax (length t) p

@@ -21,7 +21,8 @@ slice-aggregate-put-count-line-2 c = search needs
 
 put-count-line-requires-2 : tie.Need-put-count-line-requires-2
 put-count-line-requires-2 c κs =
-    omega (arith, c .before .before .before .before .put-count-line .ensures .next, count-line-short faultKey (c .before .before .before .before .before .before .before .fault-number .result))
+    let line = c .before .before .before .before in
+    omega (arith, line .put-count-line .ensures .next, count-line-short faultKey (line .before .before .before .fault-number .result))
 
 same-length : tie.Need-same-length
 same-length c = search needs
@@ -29,7 +30,9 @@ same-length c = search needs
 returns : tie.Need-returns
 unfolding faultBytes
 returns c =
-    wrote-line _ _ (rw (c .before .before .before .before .before .before .before .before .before .before .fault-number .ensures) at (c .before .before .before .before .before .before .before .put-count-line .ensures)) (wrote-last _ (c .before .before .put-count-line2 .ensures))
+    let line = c .before .before .before .before .before .before .before in
+    wrote-line _ _ (rw (line .before .before .before .fault-number .ensures) at (line .put-count-line .ensures))
+    (wrote-last _ (c .before .before .put-count-line2 .ensures))
 
 pub put-fault-spec : {M : Type 1} → statement M
 put-fault-spec =

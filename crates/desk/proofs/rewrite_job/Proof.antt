@@ -1,7 +1,7 @@
 -- `desk::rewrite_job` meets its contract.
 use borrow.Author.Needs.{needs}
 use Rattle.desk.specs.Desk.{jobStatus, jobText}
-use Rattle.desk.proofs.Told.{read-bad, read-good}
+use Rattle.desk.proofs.Answer.{read-bad, read-good}
 use Rattle.desk.proofs.rewrite_job.Statement.{statement}
 use Rattle.desk.proofs.rewrite_job.Tie as tie
 
@@ -27,7 +27,9 @@ same-length c = search needs
 returns-2 : tie.Need-returns-2
 unfolding jobStatus jobText
 returns-2 c =
-    rw (← c .before .before .before .before .before .before .read-job .ensures) (read-good (c .before .before .before .before .enum-told .given .1) (c .before .before .write-job .ensures))
+    let read = c .before .before .before .before .before .before in
+    rw (← read .read-job .ensures)
+    (read-good (c .before .before .before .before .enum-told .given .1) (c .before .before .write-job .ensures))
 
 pub rewrite-job-spec : {M : Type 1} → statement M
 rewrite-job-spec =

@@ -1,7 +1,7 @@
 -- `desk::rewrite_result` meets its contract.
 use borrow.Author.Needs.{needs}
 use Rattle.desk.specs.Desk.{resultStatus, resultText}
-use Rattle.desk.proofs.Told.{read-bad, read-good}
+use Rattle.desk.proofs.Answer.{read-bad, read-good}
 use Rattle.desk.proofs.rewrite_result.Statement.{statement}
 use Rattle.desk.proofs.rewrite_result.Tie as tie
 
@@ -27,7 +27,9 @@ same-length c = search needs
 returns-2 : tie.Need-returns-2
 unfolding resultStatus resultText
 returns-2 c =
-    rw (← c .before .before .before .before .before .before .read-result .ensures) (read-good (c .before .before .before .before .enum-told .given .1) (c .before .before .write-result .ensures))
+    let read = c .before .before .before .before .before .before in
+    rw (← read .read-result .ensures)
+    (read-good (c .before .before .before .before .enum-told .given .1) (c .before .before .write-result .ensures))
 
 pub rewrite-result-spec : {M : Type 1} → statement M
 rewrite-result-spec =

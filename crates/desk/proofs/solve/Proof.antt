@@ -1,7 +1,7 @@
 -- `desk::solve` meets its contract.
 use borrow.Author.Needs.{needs}
 use Rattle.desk.specs.Desk.{solveStatus, solveText}
-use Rattle.desk.proofs.Told.{read-bad, read-good}
+use Rattle.desk.proofs.Answer.{read-bad, read-good}
 use Rattle.desk.proofs.solve.Statement.{statement}
 use Rattle.desk.proofs.solve.Tie as tie
 
@@ -27,7 +27,9 @@ same-length c = search needs
 returns-2 : tie.Need-returns-2
 unfolding solveStatus solveText
 returns-2 c =
-    rw (← c .before .before .before .before .before .before .read-job .ensures) (read-good (c .before .before .before .before .enum-told .given .1) (c .before .before .write-run .ensures))
+    let read = c .before .before .before .before .before .before in
+    rw (← read .read-job .ensures)
+    (read-good (c .before .before .before .before .enum-told .given .1) (c .before .before .write-run .ensures))
 
 pub solve-spec : {M : Type 1} → statement M
 solve-spec =

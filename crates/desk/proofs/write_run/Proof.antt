@@ -1,7 +1,7 @@
 -- `desk::write_run` meets its contract.
 use borrow.Author.Needs.{needs}
 use Rattle.desk.specs.Desk.{runStatus, runText}
-use Rattle.desk.proofs.Told.{read-bad, read-good}
+use Rattle.desk.proofs.Answer.{read-bad, read-good}
 use Rattle.desk.proofs.write_run.Statement.{statement}
 use Rattle.desk.proofs.write_run.Tie as tie
 
@@ -27,7 +27,9 @@ same-length c = search needs
 returns-2 : tie.Need-returns-2
 unfolding runStatus runText
 returns-2 c =
-    rw (← c .before .before .before .before .before .before .run .ensures) (read-good (c .before .before .before .before .enum-told .given .1) (c .before .before .write-result .ensures))
+    let read = c .before .before .before .before .before .before in
+    rw (← read .run .ensures)
+    (read-good (c .before .before .before .before .enum-told .given .1) (c .before .before .write-result .ensures))
 
 pub write-run-spec : {M : Type 1} → statement M
 write-run-spec =
