@@ -1,4 +1,5 @@
-/* Times the library beside the peer, after both have given the same answers: bench REQUESTS, a file of requests. */
+/* Times the library beside the peer, after both have given the same answers: bench REQUESTS, a file of requests.
+ * For bench/count it also tells the name of a sort of job, bench name SORT, and does some work of one of the two: bench SOLVER WORK SORT TIMES. */
 #define _POSIX_C_SOURCE 200809L
 
 #include <stdio.h>
@@ -130,6 +131,14 @@ static void print_reading(const struct text *text, struct worst *worst)
     keep_worst(&worst->reading, ratio(reading));
 }
 
+static void print_name(const struct sort *sort)
+{
+    char terms[24] = "";
+    if (sort->terms > 0)
+        snprintf(terms, sizeof terms, "%d terms", sort->terms);
+    printf("%-6s n=%d %8s", sort->kind, sort->n, terms);
+}
+
 static void print_sort(const struct sort *sort, struct worst *worst)
 {
     struct text run, idle, soon;
@@ -137,10 +146,7 @@ static void print_sort(const struct sort *sort, struct worst *worst)
     write_job(sort, LATE, 0, &idle);
     write_job(sort, SOON, 8, &soon);
     struct times step = measure_step(&run, &idle), solve = measure(SOLVE, &soon);
-    char terms[24] = "";
-    if (sort->terms > 0)
-        snprintf(terms, sizeof terms, "%d terms", sort->terms);
-    printf("%-6s n=%d %8s", sort->kind, sort->n, terms);
+    print_name(sort);
     printf(" | %5ld %9.0f %9.0f %6.2f", steps_of(&run), 1e9 * step.of[LIBRARY], 1e9 * step.of[PEER], ratio(step));
     printf(" | %5ld %9.0f %9.0f %6.2f", steps_of(&soon), 1 / solve.of[LIBRARY], 1 / solve.of[PEER], ratio(solve));
     print_reading(&soon, worst);
@@ -180,8 +186,37 @@ static void check_all(const char *requests)
     printf("The library and the peer answer alike: %zu requests of the file, %zu jobs of the bench.\n\n", count, 3 * sort_count + 2);
 }
 
+static int tell_name(size_t sort)
+{
+    if (sort >= sort_count)
+        return 1;
+    print_name(&sorts[sort]);
+    return 0;
+}
+
+/* The work of `times` steps on a job that takes many, or of as many calls on one that is soon decided. */
+static int do_work(const char *solver_name, const char *work, size_t sort, int times)
+{
+    struct text text;
+    int solver = strcmp(solver_name, "peer") == 0 ? PEER : LIBRARY;
+    if (sort >= sort_count)
+        return 1;
+    if (strcmp(work, "steps") == 0) {
+        write_job(&sorts[sort], LATE, times, &text);
+        seconds_of(solver, SOLVE, &text, 1);
+    } else {
+        write_job(&sorts[sort], SOON, 8, &text);
+        seconds_of(solver, strcmp(work, "solve") == 0 ? SOLVE : CHECK, &text, times);
+    }
+    return 0;
+}
+
 int main(int count, char **words)
 {
+    if (count == 3)
+        return tell_name(strtoul(words[2], NULL, 10));
+    if (count == 5)
+        return do_work(words[1], words[2], strtoul(words[3], NULL, 10), atoi(words[4]));
     if (count != 2) {
         fputs("usage: bench REQUESTS\n", stderr);
         return 1;
