@@ -11,10 +11,15 @@ use Rattle.digits.specs.Show.{showNumber}
 use Rattle.digits.specs.declared.Number.{Number}
 use Rattle.text.specs.Cut.{Cut, fresh, feeds}
 use Rattle.text.specs.declared.Numbers.{Numbers}
+use Rattle.text.specs.declared.Tally.{Tally}
 
 -- as many as `inv` has
 abbrev pub placesMax : ℕ
 placesMax = nMax * nMax
+
+-- the numbers of a loop that keeps their places apart (what its functions return and what they leave behind them)
+abbrev pub counted : Tally → List ℤ → Numbers
+counted t vals = record { ok = t .ok; count = t .count; vals = vals }
 
 -- no number yet
 unfoldable pub noNumbers : Numbers

@@ -1,11 +1,11 @@
 // The pieces of a text's line: its key, a count, a list of numbers.
 ghost use mathlib.Core.Path.{_≡_};
 ghost use Prim.Native.Nat.{_≤_};
-ghost use lib.ListN.{length, take};
+ghost use lib.ListN.{length, take, set};
 ghost use Rattle.sizes.specs.Sizes.{nMax, textMax};
 ghost use Rattle.text.specs.Keys.{startsWith, sameBytes, bodyOf};
 ghost use Rattle.text.specs.Counts.{inCount, countOf};
-ghost use Rattle.text.specs.Lists.{noNumbers, putNumber, addRead, addField, readList};
+ghost use Rattle.text.specs.Lists.{placesMax, counted, addRead, addField, readList};
 use digits::Number;
 use sizes::N;
 
@@ -17,6 +17,12 @@ pub struct Numbers {
     pub ok: bool,
     pub count: usize,
     pub vals: [i64; PLACES],
+}
+
+// A list's numbers beside their places: whether each is well spelled, and how many there are.
+struct Tally {
+    ok: bool,
+    count: usize,
 }
 
 // A count from 0 to a limit, a number that is none, or no number.
@@ -86,60 +92,40 @@ pub fn count_of(v: Number, most: u64) -> Count
     }
 }
 
-fn no_numbers() -> Numbers
-    ensures { λ r. ⌜ r ≡ noNumbers ⌝ }
+// The number at its place, if there is one.
+fn put_number(vals: &mut [i64; PLACES], at: usize, v: i64)
+    requires { ⌜ length (now vals) ≡ placesMax ⌝ }
+    ensures { λ _. ⌜ now (vals .exit) ≡ set (now (vals .entry)) at v ⌝ }
 {
-    Numbers {
-        ok: true,
-        count: 0,
-        vals: [0; PLACES],
-    }
-}
-
-fn put_number(a: Numbers, v: i64) -> Numbers
-    requires { ⌜ a .count ≤ textMax ⌝ }
-    ensures { λ r. ⌜ r ≡ putNumber a v ⌝ }
-{
-    let at = a.count;
-    let ok = a.ok;
-    let mut vals = a.vals;
     if at < PLACES {
         vals[at] = v;
-        return Numbers {
-            ok,
-            count: at + 1,
-            vals,
-        };
-    }
-    Numbers {
-        ok,
-        count: at + 1,
-        vals,
     }
 }
 
-fn add_read(a: Numbers, v: Number) -> Numbers
-    requires { ⌜ a .count ≤ textMax ⌝ }
-    ensures { λ r. ⌜ r ≡ addRead a v ⌝ }
+fn add_read(vals: &mut [i64; PLACES], t: Tally, v: Number) -> Tally
+    requires { ⌜ (t .count ≤ textMax) × (length (now vals) ≡ placesMax) ⌝ }
+    ensures { λ r. ⌜ counted r (now (vals .exit)) ≡ addRead (counted t (now (vals .entry))) v ⌝ }
 {
     match v {
-        Number::Bad => {
-            let vals = a.vals;
-            Numbers {
-                ok: false,
-                count: a.count,
-                vals,
+        Number::Bad => Tally {
+            ok: false,
+            count: t.count,
+        },
+        Number::Is(v) => {
+            put_number(vals, t.count, v);
+            Tally {
+                ok: t.ok,
+                count: t.count + 1,
             }
         }
-        Number::Is(v) => put_number(a, v),
     }
 }
 
-fn add_field(a: Numbers, f: &[u8]) -> Numbers
-    requires { ⌜ a .count ≤ textMax ⌝ }
-    ensures { λ r. ⌜ r ≡ addField a (now (f .entry)) ⌝ }
+fn add_field(vals: &mut [i64; PLACES], t: Tally, f: &[u8]) -> Tally
+    requires { ⌜ (t .count ≤ textMax) × (length (now vals) ≡ placesMax) ⌝ }
+    ensures { λ r. ⌜ counted r (now (vals .exit)) ≡ addField (counted t (now (vals .entry))) (now (f .entry)) ⌝ }
 {
-    add_read(a, digits::read_number(f))
+    add_read(vals, t, digits::read_number(f))
 }
 
 // The numbers between the commas. One pass, and it goes on counting past the last place.
@@ -147,19 +133,25 @@ pub fn read_list(s: &[u8]) -> Numbers
     requires { ⌜ length (now s) ≤ textMax ⌝ }
     ensures { λ r. ⌜ r ≡ readList (now (s .entry)) ⌝ }
 {
-    let mut acc = no_numbers();
+    let mut vals = [0; PLACES];
+    let mut t = Tally { ok: true, count: 0 };
     let mut a = 0;
     let mut i = 0;
     while i < s.len() {
         if s[i] == b',' {
-            acc = add_field(acc, &s[a..i]);
+            t = add_field(&mut vals, t, &s[a..i]);
             i += 1;
             a = i;
         } else {
             i += 1;
         }
     }
-    add_field(acc, &s[a..])
+    t = add_field(&mut vals, t, &s[a..]);
+    Numbers {
+        ok: t.ok,
+        count: t.count,
+        vals,
+    }
 }
 
 // The first N of a list's numbers.
