@@ -1,13 +1,13 @@
 -- A loop that goes through a slice byte by byte and hands on each piece between separators: what one turn does to the fold that it computes.
-use Prim.Native.Nat.{ℕ, suc, _+_, _-_, _≤_, _<_}
+use Prim.Native.Nat.{ℕ, zero, suc, _+_, _-_, _≤_, _<_}
 use native.Mathlib.Omega.{arith}
 use native.Mathlib.Numerals.{add-one}
-use mathlib.Core.Path.{_≡_, refl, _∙_}
+use mathlib.Core.Path.{_≡_, refl, sym, ap, _∙_}
 use mathlib.Core.List.{List, [], _∷_, _++_}
 use lib.ListN.{length, take, drop, getD, length-drop, drop-of-length-le}
 use lib.Seq.{take-suc, drop-cons, getD-drop}
 use borrow.Author.Tests.{eq-eqb, ne-eqb}
-use Rattle.text.specs.Cut.{Cut, fresh, feed, feeds}
+use Rattle.text.specs.Cut.{Cut, PieceEnd, fresh, feed, feeds}
 
 -- the part from a to i, and one byte more of it
 part-more : (s : List ℕ) (a i : ℕ) → a ≤ i → i < length s → take (i + 1 - a) (drop a s) ≡ take (i - a) (drop a s) ++ (getD s i 0 ∷ [])
@@ -53,3 +53,43 @@ module _ {S : Type 0} (step : S → List ℕ → S) (sep : ℕ) where
     pub kept : (getD s i 0 ≡ sep → ⊥)
         → feeds step sep (at-part st s a i) (drop i s) ≡ feeds step sep (at-part st s a (i + 1)) (drop (i + 1) s)
     kept n = rw (part-more s a i p q, drop-cons s i 0 q, add-one i, feeds-cons, feed-held (at-part st s a i) (getD s i 0) n)
+
+  -- up to its end a piece is held
+  held-from : (s : List ℕ) (st : S) (a : ℕ) (d i : ℕ) → a ≤ i → i + d ≤ length s
+      → ((k : ℕ) → a ≤ k → k < i + d → getD s k 0 ≡ sep → ⊥)
+      → feeds step sep (at-part st s a i) (drop i s) ≡ feeds step sep (at-part st s a (i + d)) (drop (i + d) s)
+  held-from s st a zero i p q n = let e : i + 0 ≡ i = omega arith in rw e
+  held-from s st a (suc d) i p q n =
+      let e : i + suc d ≡ i + 1 + d = omega arith in
+      let f : feeds step sep (at-part st s a i) (drop i s) ≡ feeds step sep (at-part st s a (i + 1)) (drop (i + 1) s) =
+      kept s st a i p (omega arith) (n i p (omega arith)) in
+      f ∙ rw e (held-from s st a d (i + 1) (omega arith) (omega arith) (λ k x y. n k x (omega arith)))
+
+  pub held : (s : List ℕ) (st : S) (a e : ℕ) → PieceEnd s sep a e
+      → feeds step sep (fresh st) (drop a s) ≡ feeds step sep (at-part st s a e) (drop e s)
+  held s st a e p =
+      let z : a - a ≡ 0 = omega arith in
+      let f : a + (e - a) ≡ e = omega (arith, p .after) in
+      rw f at (rw z at (held-from s st a (e - a) a (omega arith) (omega (arith, p .inside, p .after)) (λ k x y. p .none k x (omega (arith, p .after)))))
+
+-- the last piece too, which no separator ends
+abbrev pub closed : {S : Type 0} → (S → List ℕ → S) → Cut S → S
+closed step k = step (k .st) (k .held)
+
+-- what a loop over pieces leaves to do: the pieces from a on take acc to the whole, and past the end of the text there are none
+pub record Left {S : Type 0} (step : S → List ℕ → S) (sep : ℕ) (s : List ℕ) (a : ℕ) (acc whole : S) : Type 0 where
+  pub more : a ≤ length s → closed step (feeds step sep (fresh acc) (drop a s)) ≡ whole
+  pub none : length s < a → acc ≡ whole
+
+module _ {S : Type 0} (step : S → List ℕ → S) (sep : ℕ) (s : List ℕ) (whole : S) where
+  pub left-next : (acc : S) (a e : ℕ) → a ≤ length s → PieceEnd s sep a e → Left step sep s a acc whole
+      → Left step sep s (e + 1) (step acc (take (e - a) (drop a s))) whole
+  left-next acc a e h p l =
+      let fed = ap (closed step) (held step sep s acc a e p) in
+      record {
+        more = λ k.
+            let z : e + 1 - (e + 1) ≡ 0 = omega arith in
+            let f = ended step sep s acc a e (p .after) (omega arith) (p .ends (omega arith)) in
+            sym (ap (closed step) (rw z at f)) ∙ sym fed ∙ l .more h;
+        none = λ k. sym (ap (closed step) (all-fed step sep s (at-part acc s a e) e (omega arith))) ∙ sym fed ∙ l .more h;
+      }

@@ -12,7 +12,7 @@ use Rattle.digits.specs.Show.{showMagnitude, showNumber}
 use Rattle.digits.proofs.Cases.{same-or}
 use Rattle.text.specs.Cut.{Cut, fresh, feed, feeds, endEach}
 use Rattle.text.specs.Lists.{afterCommas, joined}
-use Rattle.text.proofs.Cuts.{feed-sep, feed-held, feeds-none, feeds-cons}
+use Rattle.text.proofs.Cuts.{closed, feed-sep, feed-held, feeds-none, feeds-cons}
 
 -- ---- bytes above a separator
 
@@ -81,10 +81,6 @@ module _ {S : Type 0} (step : S → List ℕ → S) (sep : ℕ) where
   unfolding AllAbove endEach feeds
   fed-each [] st q = refl
   fed-each (l ∷ ls) st q = feeds-piece st l (endEach sep ls) (q .0) ∙ fed-each ls (step st l) (q .1)
-
--- the last piece too, which no separator ends
-abbrev pub closed : {S : Type 0} → (S → List ℕ → S) → Cut S → S
-closed step k = step (k .st) (k .held)
 
 module _ {S : Type 0} (step : S → List ℕ → S) where
   pub fed-joined : (st : S) (x : List ℕ) (xs : List (List ℕ)) → Above comma x → AllAbove comma xs

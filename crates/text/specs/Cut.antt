@@ -1,7 +1,9 @@
 -- A text taken byte by byte and cut at each separator: lines at LF, the fields of a list at the comma.
-use Prim.Native.Nat.{ℕ}
+use Prim.Native.Nat.{ℕ, _≤_, _<_}
 use mathlib.Core.List.{List, [], _∷_, _++_, foldl}
 use mathlib.Core.Bool.{cond}
+use mathlib.Core.Path.{_≡_}
+use lib.ListN.{length, getD}
 use lib.Dec.{eqb}
 
 -- what is made of the pieces that have ended, and the bytes of the piece that has not
@@ -20,6 +22,13 @@ feed step sep k b = cond (eqb b sep) (fresh (step (k .st) (k .held))) (record { 
 -- all of a text
 unfoldable pub feeds : {S : Type 0} → (S → List ℕ → S) → ℕ → Cut S → List ℕ → Cut S
 feeds step sep k bs = foldl (feed step sep) k bs
+
+-- the piece that begins at a ends at e: the next separator stands there, or nothing
+pub record PieceEnd (s : List ℕ) (sep a e : ℕ) : Type 0 where
+  pub after : a ≤ e
+  pub inside : e ≤ length s
+  pub ends : e < length s → getD s e 0 ≡ sep
+  pub none : (k : ℕ) → a ≤ k → k < e → getD s k 0 ≡ sep → ⊥
 
 -- each piece with the separator after it
 unfoldable pub endEach : ℕ → List (List ℕ) → List ℕ

@@ -5,6 +5,7 @@ ghost use lib.ListN.{length, take, set};
 ghost use Rattle.sizes.specs.Sizes.{nMax, textMax};
 ghost use Rattle.text.specs.Keys.{startsWith, sameBytes, bodyOf};
 ghost use Rattle.text.specs.Counts.{inCount, countOf};
+ghost use Rattle.text.specs.Cut.{PieceEnd};
 ghost use Rattle.text.specs.Lists.{placesMax, counted, addRead, addField, readList};
 use digits::Number;
 use sizes::N;
@@ -128,7 +129,22 @@ fn add_field(vals: &mut [i64; PLACES], t: Tally, f: &[u8]) -> Tally
     add_read(vals, t, digits::read_number(f))
 }
 
-// The numbers between the commas. One pass, and it goes on counting past the last place.
+// Where the piece that begins at a ends: at the next separator, or at the end of the text.
+pub fn piece_end(s: &[u8], a: usize, sep: u8) -> usize
+    requires { ⌜ a ≤ length (now s) ⌝ }
+    ensures { λ r. ⌜ PieceEnd (now (s .entry)) sep a r ⌝ }
+{
+    let mut i = a;
+    while i < s.len() {
+        if s[i] == sep {
+            return i;
+        }
+        i += 1;
+    }
+    i
+}
+
+// The numbers between the commas. It goes on counting past the last place.
 pub fn read_list(s: &[u8]) -> Numbers
     requires { ⌜ length (now s) ≤ textMax ⌝ }
     ensures { λ r. ⌜ r ≡ readList (now (s .entry)) ⌝ }
@@ -136,17 +152,11 @@ pub fn read_list(s: &[u8]) -> Numbers
     let mut vals = [0; PLACES];
     let mut t = Tally { ok: true, count: 0 };
     let mut a = 0;
-    let mut i = 0;
-    while i < s.len() {
-        if s[i] == b',' {
-            t = add_field(&mut vals, t, &s[a..i]);
-            i += 1;
-            a = i;
-        } else {
-            i += 1;
-        }
+    while a <= s.len() {
+        let e = piece_end(s, a, b',');
+        t = add_field(&mut vals, t, &s[a..e]);
+        a = e + 1;
     }
-    t = add_field(&mut vals, t, &s[a..]);
     Numbers {
         ok: t.ok,
         count: t.count,
