@@ -1,5 +1,6 @@
 -- The terms of an `eq` line. Document 01: "A `poly` job has `eq` lines of terms `coefficient:exponents`, one digit for each unknown".
 use Prim.Native.Nat.{ℕ, _+_, _-_}
+use mathlib.Core.Path.{_≡_}
 use mathlib.Core.List.{List, [], _∷_}
 use mathlib.Core.Bool.{Bool, true, false, cond, not, _&&_, _||_}
 use lib.ListN.{length, take, drop, getD, set}
@@ -16,6 +17,8 @@ use Rattle.text.specs.Keys.{startsWith, bodyOf}
 use Rattle.jobs.specs.declared.Term.{Term}
 use Rattle.digits.specs.declared.Number.{Number}
 use Rattle.termtext.specs.declared.Terms.{Terms}
+use Rattle.termtext.specs.declared.Tally.{Tally}
+use Rattle.termtext.specs.declared.Field.{Field}
 
 abbrev pub colon : ℕ
 colon = 58
@@ -36,6 +39,10 @@ unfoldable pub exponents : ℕ → List ℕ → List ℕ
 exponents n s = tab nMax n 0 (λ k. getD s k 0 - digit0)
 
 -- ---- the terms read so far
+
+-- with the terms' places apart, as the reader's loop keeps them
+abbrev pub counted : Tally → List Term → Terms
+counted t terms = record { ok = t .spelled; far = t .far; equation = record { count = t .count; terms = terms } }
 
 unfoldable pub noTerms : Terms
 noTerms = record { ok = true; far = false; equation = zeroEquation }
@@ -66,6 +73,21 @@ unfoldable pub addTerm : ℕ → Terms → List ℕ → Terms
 addTerm n a f =
     cond (leb (length f) n) (misspelled a)
     (cond (eqb (getD f (length f - n - 1) 0) colon) (addParts n a (length f - n - 1) f) (misspelled a))
+
+-- ---- a field by itself, for the reader that looks at it before it puts it anywhere
+
+unfoldable pub added : Terms → Field → Terms
+added a f = cond (f .ok) (putTerm a (f .term)) (misspelled a)
+
+-- adding the field f to any terms is `add`
+pub record Adds (f : Field) (add : Terms → Terms) : Type 0 where
+  pub all : (a : Terms) → added a f ≡ add a
+
+-- t is told as u with the field f added, wherever the terms are
+pub record Counts (u t : Tally) (f : Field) : Type 0 where
+  pub all : (terms : List Term) → counted u (cond (f .ok) (set terms (t .count) (f .term)) terms) ≡ added (counted t terms) f
+
+-- ---- a line
 
 -- the last field has no comma after it
 unfoldable pub lastTerm : ℕ → Cut Terms → Terms

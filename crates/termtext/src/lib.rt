@@ -2,12 +2,12 @@
 ghost use mathlib.Core.Path.{_≡_};
 ghost use mathlib.Core.Bool.{_||_};
 ghost use Prim.Native.Nat.{_+_, _-_, _≤_};
-ghost use lib.ListN.{length, set};
+ghost use lib.ListN.{length};
 ghost use Rattle.sizes.specs.Sizes.{nMax, textMax};
 ghost use Rattle.digits.specs.Bytes.{digit0};
 ghost use Rattle.jobs.specs.Zero.{zeroTerm, zeroEquation};
-ghost use Rattle.termtext.specs.Terms.{isDigit, allDigits, exponents, noTerms, misspelled};
-ghost use Rattle.termtext.specs.Terms.{putTerm, addCoef, addParts, addTerm, readTerms, readEquation};
+ghost use Rattle.termtext.specs.Terms.{isDigit, allDigits, exponents, noTerms, misspelled, Adds, Counts};
+ghost use Rattle.termtext.specs.Terms.{addCoef, addParts, addTerm, readTerms, readEquation};
 use digits::Number;
 use jobs::Equation;
 use jobs::Term;
@@ -20,6 +20,19 @@ pub struct Terms {
     pub ok: bool,
     pub far: bool,
     pub equation: Equation,
+}
+
+// What is known of the terms beside their places.
+struct Tally {
+    spelled: bool,
+    far: bool,
+    count: usize,
+}
+
+// One field: whether it is well spelled, and its term.
+struct Field {
+    ok: bool,
+    term: Term,
 }
 
 pub fn zero_term() -> Term
@@ -101,106 +114,111 @@ fn no_terms() -> Terms
     }
 }
 
-fn misspell(a: Terms) -> Terms
-    ensures { λ r. ⌜ r ≡ misspelled a ⌝ }
+fn bad_term() -> Field
+    ensures { λ r. ⌜ Adds r misspelled ⌝ }
 {
-    let equation = a.equation;
-    Terms {
+    Field {
         ok: false,
-        far: a.far,
-        equation,
+        term: zero_term(),
     }
 }
 
-// The term at its place, if there is one.
-fn store(terms: [Term; TERMS], at: usize, t: Term) -> [Term; TERMS]
-    ensures { λ r. ⌜ r ≡ set terms at t ⌝ }
-{
-    let mut new = terms;
-    if at < TERMS {
-        new[at] = t;
-        return new;
-    }
-    new
-}
-
-fn put_term(a: Terms, t: Term) -> Terms
-    requires { ⌜ a .equation .count ≤ textMax ⌝ }
-    ensures { λ r. ⌜ r ≡ putTerm a t ⌝ }
-{
-    let far = or(a.far, !jobs::ranges::within(t.coef, ENTRY));
-    let ok = a.ok;
-    let q = a.equation;
-    let at = q.count;
-    let places = q.terms;
-    let terms = store(places, at, t);
-    Terms {
-        ok,
-        far,
-        equation: Equation {
-            count: at + 1,
-            terms,
-        },
-    }
-}
-
-fn add_coef(a: Terms, c: Number, exps: [u8; N]) -> Terms
-    requires { ⌜ a .equation .count ≤ textMax ⌝ }
-    ensures { λ r. ⌜ r ≡ addCoef a c exps ⌝ }
+fn whole_term(c: Number, exps: [u8; N]) -> Field
+    ensures { λ r. ⌜ Adds r (λ a. addCoef a c exps) ⌝ }
 {
     match c {
-        Number::Bad => misspell(a),
-        Number::Is(coef) => put_term(a, Term { coef, exps }),
+        Number::Bad => bad_term(),
+        Number::Is(coef) => {
+            let term = Term { coef, exps };
+            Field { ok: true, term }
+        }
     }
 }
 
-fn add_parts(a: Terms, f: &[u8], n: usize, at: usize) -> Terms
-    requires { ⌜ (a .equation .count ≤ textMax) × (n ≤ nMax) × (at + 1 + n ≤ length (now f)) ⌝ }
-    ensures { λ r. ⌜ r ≡ addParts n a at (now (f .entry)) ⌝ }
+fn term_parts(f: &[u8], n: usize, at: usize) -> Field
+    requires { ⌜ (n ≤ nMax) × (at + 1 + n ≤ length (now f)) ⌝ }
+    ensures { λ r. ⌜ Adds r (λ a. addParts n a at (now (f .entry))) ⌝ }
 {
     let last = &f[at + 1..];
     if all_digits(last) {
-        return add_coef(a, digits::read_number(&f[..at]), exponents_of(last, n));
+        return whole_term(digits::read_number(&f[..at]), exponents_of(last, n));
     }
-    misspell(a)
+    bad_term()
 }
 
-fn add_term(a: Terms, f: &[u8], n: usize) -> Terms
-    requires { ⌜ (a .equation .count ≤ textMax) × (n ≤ nMax) ⌝ }
-    ensures { λ r. ⌜ r ≡ addTerm n a (now (f .entry)) ⌝ }
+fn read_term(f: &[u8], n: usize) -> Field
+    requires { ⌜ n ≤ nMax ⌝ }
+    ensures { λ r. ⌜ Adds r (λ a. addTerm n a (now (f .entry))) ⌝ }
 {
     let k = f.len();
     if k <= n {
-        return misspell(a);
+        return bad_term();
     }
     let at = k - n - 1;
     if f[at] == b':' {
-        return add_parts(a, f, n, at);
+        return term_parts(f, n, at);
     }
-    misspell(a)
+    bad_term()
 }
 
-// The terms between the commas. One pass, and it goes on past the last place.
+// A field counted and looked at, wherever its term is put.
+fn tallied(a: Tally, f: Field) -> Tally
+    requires { ⌜ a .count ≤ textMax ⌝ }
+    ensures { λ r. ⌜ Counts r a f ⌝ }
+{
+    let t = f.term;
+    if f.ok {
+        let far = or(a.far, !jobs::ranges::within(t.coef, ENTRY));
+        return Tally {
+            spelled: a.spelled,
+            far,
+            count: a.count + 1,
+        };
+    }
+    Tally {
+        spelled: false,
+        far: a.far,
+        count: a.count,
+    }
+}
+
+// The terms between the commas. It goes on past the last place.
 pub fn read_terms(s: &[u8], n: usize) -> Terms
     requires { ⌜ (length (now s) ≤ textMax) × (n ≤ nMax) ⌝ }
     ensures { λ r. ⌜ r ≡ readTerms n (now (s .entry)) ⌝ }
 {
-    let mut acc = no_terms();
     if s.len() == 0 {
-        return acc;
+        return no_terms();
     }
+    let zero = zero_term();
+    let mut terms = [zero; TERMS];
+    let mut t = Tally {
+        spelled: true,
+        far: false,
+        count: 0,
+    };
     let mut a = 0;
-    let mut i = 0;
-    while i < s.len() {
-        if s[i] == b',' {
-            acc = add_term(acc, &s[a..i], n);
-            i += 1;
-            a = i;
-        } else {
-            i += 1;
+    while a <= s.len() {
+        let e = text::piece_end(s, a, b',');
+        let f = read_term(&s[a..e], n);
+        let at = t.count;
+        t = tallied(t, f);
+        a = e + 1;
+        if f.ok {
+            if at < TERMS {
+                let term = f.term;
+                terms[at] = term;
+            }
         }
     }
-    add_term(acc, &s[a..], n)
+    Terms {
+        ok: t.spelled,
+        far: t.far,
+        equation: Equation {
+            count: t.count,
+            terms,
+        },
+    }
 }
 
 pub fn read_equation(l: &[u8], n: usize) -> Terms
@@ -210,5 +228,9 @@ pub fn read_equation(l: &[u8], n: usize) -> Terms
     if text::starts(l, b"eq=") {
         return read_terms(text::body(l, b"eq="), n);
     }
-    misspell(no_terms())
+    Terms {
+        ok: false,
+        far: false,
+        equation: zero_equation(),
+    }
 }

@@ -17,9 +17,9 @@ use Rattle.text.specs.declared.Tally.{Tally}
 abbrev pub placesMax : ℕ
 placesMax = nMax * nMax
 
--- the numbers of a loop that keeps their places apart (what its functions return and what they leave behind them)
+-- with the numbers' places apart, as the reader's loop keeps them
 abbrev pub counted : Tally → List ℤ → Numbers
-counted t vals = record { ok = t .ok; count = t .count; vals = vals }
+counted t vals = record { ok = t .spelled; count = t .count; vals = vals }
 
 -- no number yet
 unfoldable pub noNumbers : Numbers

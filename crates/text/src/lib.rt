@@ -22,7 +22,7 @@ pub struct Numbers {
 
 // A list's numbers beside their places: whether each is well spelled, and how many there are.
 struct Tally {
-    ok: bool,
+    spelled: bool,
     count: usize,
 }
 
@@ -109,13 +109,13 @@ fn add_read(vals: &mut [i64; PLACES], t: Tally, v: Number) -> Tally
 {
     match v {
         Number::Bad => Tally {
-            ok: false,
+            spelled: false,
             count: t.count,
         },
         Number::Is(v) => {
             put_number(vals, t.count, v);
             Tally {
-                ok: t.ok,
+                spelled: t.spelled,
                 count: t.count + 1,
             }
         }
@@ -150,7 +150,10 @@ pub fn read_list(s: &[u8]) -> Numbers
     ensures { λ r. ⌜ r ≡ readList (now (s .entry)) ⌝ }
 {
     let mut vals = [0; PLACES];
-    let mut t = Tally { ok: true, count: 0 };
+    let mut t = Tally {
+        spelled: true,
+        count: 0,
+    };
     let mut a = 0;
     while a <= s.len() {
         let e = piece_end(s, a, b',');
@@ -158,7 +161,7 @@ pub fn read_list(s: &[u8]) -> Numbers
         a = e + 1;
     }
     Numbers {
-        ok: t.ok,
+        ok: t.spelled,
         count: t.count,
         vals,
     }

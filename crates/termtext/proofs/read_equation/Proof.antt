@@ -3,7 +3,7 @@ use borrow.Author.Needs.{needs}
 use native.Mathlib.Omega.{arith}
 use mathlib.Core.Path.{sym, ap, _∙_}
 use Rattle.text.proofs.Keys.{body-short}
-use Rattle.termtext.specs.Terms.{eqKey, misspelled, readTerms, readEquation}
+use Rattle.termtext.specs.Terms.{eqKey, noTerms, misspelled, readTerms, readEquation}
 use Rattle.termtext.proofs.read_equation.Statement.{statement}
 use Rattle.termtext.proofs.read_equation.Tie as tie
 
@@ -28,17 +28,12 @@ returns c =
     rw (sym (c .before .before .before .before .starts .ensures) ∙ c .before .before .before .if1 .taken)
     (c .read-terms .ensures ∙ ap (readTerms (c .before .before .before .before .before .before .before .args .n)) (c .before .body .ensures))
 
-no-terms-requires : tie.Need-no-terms-requires
-no-terms-requires c κs = search needs
-
-misspell-requires : tie.Need-misspell-requires
-misspell-requires c κs = search needs
+zero-equation-requires : tie.Need-zero-equation-requires
+zero-equation-requires c κs = search needs
 
 returns-2 : tie.Need-returns-2
-unfolding readEquation
-returns-2 c =
-    rw (sym (c .before .before .before .starts .ensures) ∙ c .before .before .if1 .left)
-    (c .misspell .ensures ∙ ap misspelled (c .before .no-terms .ensures))
+unfolding readEquation noTerms misspelled
+returns-2 c = rw (sym (c .before .before .starts .ensures) ∙ c .before .if1 .left, c .zero-equation .ensures)
 
 pub read-equation-spec : {M : Type 1} → statement M
 read-equation-spec =
@@ -50,6 +45,5 @@ read-equation-spec =
     body-requires
     read-terms-requires
     returns
-    no-terms-requires
-    misspell-requires
+    zero-equation-requires
     returns-2)

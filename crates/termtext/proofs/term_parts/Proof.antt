@@ -1,4 +1,4 @@
--- `termtext::add_parts` meets its contract.
+-- `termtext::term_parts` meets its contract.
 use borrow.Author.Needs.{needs}
 use Prim.Native.Nat.{_+_}
 use native.Mathlib.Omega.{arith}
@@ -7,8 +7,8 @@ use lib.ListN.{length-drop}
 use lib.Seq.{length-take-le}
 use Rattle.digits.proofs.Lists.{to-end}
 use Rattle.termtext.specs.Terms.{addParts}
-use Rattle.termtext.proofs.add_parts.Statement.{statement}
-use Rattle.termtext.proofs.add_parts.Tie as tie
+use Rattle.termtext.proofs.term_parts.Statement.{statement}
+use Rattle.termtext.proofs.term_parts.Tie as tie
 
 add-last : tie.Need-add-last
 add-last c = search needs
@@ -38,28 +38,32 @@ exponents-of-requires c κs =
     let args = c .before .before .before .before .before .before .args in
     (search needs, rw (to-end (args .at + 1) (args .f .now), length-drop (args .at + 1) (args .f .now)) (omega arith))
 
-add-coef-requires : tie.Need-add-coef-requires
-add-coef-requires c κs = search needs
+whole-term-requires : tie.Need-whole-term-requires
+whole-term-requires c κs = search needs
 
 returns : tie.Need-returns
 unfolding addParts
 returns c =
     let args = c .before .before .before .before .before .before .before .before .args in
     let e = to-end (args .at + 1) (args .f .now) in
-    rw (rw e at (sym (c .before .before .before .before .before .all-digits .ensures) ∙ c .before .before .before .before .if1 .taken))
-    (c .add-coef .ensures ∙ rw (c .before .before .read-number .ensures, c .before .exponents-of .ensures, e))
+    let told = sym (c .before .before .before .before .before .all-digits .ensures) ∙ c .before .before .before .before .if1 .taken in
+    record {
+      all = λ a.
+          rw (rw e at told) (c .whole-term .ensures .all a ∙ rw (c .before .before .read-number .ensures, c .before .exponents-of .ensures, e));
+    }
 
-misspell-requires : tie.Need-misspell-requires
-misspell-requires c κs = search needs
+bad-term-requires : tie.Need-bad-term-requires
+bad-term-requires c κs = search needs
 
 returns-2 : tie.Need-returns-2
 unfolding addParts
 returns-2 c =
     let args = c .before .before .before .before .before .args in
-    rw (rw (to-end (args .at + 1) (args .f .now)) at (sym (c .before .before .all-digits .ensures) ∙ c .before .if1 .left)) (c .misspell .ensures)
+    let told = sym (c .before .before .all-digits .ensures) ∙ c .before .if1 .left in
+    record { all = λ a. rw (rw (to-end (args .at + 1) (args .f .now)) at told) (c .bad-term .ensures .all a) }
 
-pub add-parts-spec : {M : Type 1} → statement M
-add-parts-spec =
+pub term-parts-spec : {M : Type 1} → statement M
+term-parts-spec =
     tie.close
     (tie.spec
     add-last
@@ -70,7 +74,7 @@ add-parts-spec =
     slice-aggregate-read-number
     read-number-requires
     exponents-of-requires
-    add-coef-requires
+    whole-term-requires
     returns
-    misspell-requires
+    bad-term-requires
     returns-2)
