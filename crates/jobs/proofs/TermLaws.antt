@@ -53,6 +53,11 @@ module _ (t u : Term) where
       later : k < n → falls t u n ≡ false → falls t u n || (alike t u n && ltb (expOf u n) (expOf t n)) ≡ false
       later lt f = rw (f, all-stop _ n k lt (ne-eqb (expOf t k) (expOf u k) (λ q. omega arith)))
 
+pub order-first : (q : Equation) (n k : ℕ) → k ≤ 0 → inOrder q n k ≡ true
+unfolding inOrder
+order-first q n zero l = refl
+order-first q n (suc k) l = absurd (not-suc-le-zero l)
+
 pub order-at : (q : Equation) (n k : ℕ) → 0 < k → inOrder q n k ≡ falls (termAt q (k - 1)) (termAt q k) n
 unfolding inOrder
 order-at q n zero l = absurd (not-suc-le-zero l)

@@ -6,10 +6,10 @@ use sizes::DEGREE;
 use sizes::ENTRY;
 use sizes::TERMS;
 ghost use mathlib.Core.Path.{_≡_};
-ghost use Prim.Native.Nat.{_≤_, _<_, min};
+ghost use Prim.Native.Nat.{_≤_, min};
 ghost use Rattle.sizes.specs.Sizes.{nMax, termsMax};
 ghost use Rattle.jobs.specs.Places.{expOf};
-ghost use Rattle.jobs.specs.Terms.{degree, falls, inOrder, goodTerm, goodPlace, goodTerms, goodCoefs};
+ghost use Rattle.jobs.specs.Terms.{degree, falls, goodTerm, goodTerms, goodCoefs};
 
 // (A wider number than an exponent's holds the sum of any.)
 pub fn degree_of(t: Term, n: usize) -> u64
@@ -41,19 +41,6 @@ pub fn stands_before(t: Term, u: Term, n: usize) -> bool
     false
 }
 
-fn in_order(q: Equation, n: usize, k: usize) -> bool
-    requires { ⌜ (n ≤ nMax) × (k < termsMax) ⌝ }
-    ensures { λ r. ⌜ r ≡ inOrder q n k ⌝ }
-{
-    if k == 0 {
-        return true;
-    }
-    let before = k - 1;
-    let t = q.terms[before];
-    let u = q.terms[k];
-    stands_before(t, u, n)
-}
-
 pub fn good_term(t: Term, n: usize) -> bool
     requires { ⌜ n ≤ nMax ⌝ }
     ensures { λ r. ⌜ r ≡ goodTerm t n ⌝ }
@@ -64,17 +51,6 @@ pub fn good_term(t: Term, n: usize) -> bool
     degree_of(t, n) <= DEGREE
 }
 
-fn good_place(q: Equation, n: usize, k: usize) -> bool
-    requires { ⌜ (n ≤ nMax) × (k < termsMax) ⌝ }
-    ensures { λ r. ⌜ r ≡ goodPlace q n k ⌝ }
-{
-    let t = q.terms[k];
-    if !good_term(t, n) {
-        return false;
-    }
-    in_order(q, n, k)
-}
-
 pub fn good_terms(q: Equation, n: usize) -> bool
     requires { ⌜ n ≤ nMax ⌝ }
     ensures { λ r. ⌜ r ≡ goodTerms q n ⌝ }
@@ -83,9 +59,18 @@ pub fn good_terms(q: Equation, n: usize) -> bool
     if TERMS < count {
         return false;
     }
+    let terms = q.terms;
     for k in 0..count {
-        if !good_place(q, n, k) {
+        let t = terms[k];
+        if !good_term(t, n) {
             return false;
+        }
+        if 0 < k {
+            let before = k - 1;
+            let u = terms[before];
+            if !stands_before(u, t, n) {
+                return false;
+            }
         }
     }
     true

@@ -1,21 +1,33 @@
 -- `terms::good_terms` meets its contract. The loop's invariant: every term passed is good.
-use mathlib.Core.Bool.{true}
+use mathlib.Core.Bool.{Bool, true, false, _&&_}
 use mathlib.Core.Path.{_≡_, refl, sym, _∙_}
-use Prim.Native.Nat.{_≤_, _-_}
+use mathlib.Core.Logic.{⊎-elim}
+use Prim.Native.Nat.{ℕ, _≤_, _-_}
 use native.Mathlib.Omega.{arith}
 use borrow.Author.Tests.{not-true, not-false, le-leb, lt-leb}
 use borrow.Author.Needs.{needs}
 use Rattle.lists.specs.Loops.{allB}
 use Rattle.lists.proofs.All.{all-more, all-stop, all-done}
-use Rattle.jobs.specs.Terms.{goodPlace, goodTerms}
+use Rattle.jobs.specs.declared.Equation.{Equation}
+use Rattle.jobs.specs.Places.{termAt}
+use Rattle.jobs.specs.Terms.{goodTerm, inOrder, goodPlace, goodTerms}
+use Rattle.jobs.proofs.TermLaws.{order-first, order-at}
 use Rattle.jobs.proofs.terms.good_terms.Statement.{statement}
 use Rattle.jobs.proofs.terms.good_terms.Tie as tie
 
+place : (q : Equation) (n k : ℕ) (a b : Bool) → goodTerm (termAt q k) n ≡ a → inOrder q n k ≡ b → goodPlace q n k ≡ a && b
+unfolding goodPlace
+place q n k a b p o = rw (p, o)
+
+bad-term : (q : Equation) (n k : ℕ) → goodTerm (termAt q k) n ≡ false → goodPlace q n k ≡ false
+unfolding goodPlace
+bad-term q n k p = rw p
+
 abbrev Inv-loop : tie.InvT-loop
-Inv-loop q n count k₀ k = (k ≤ count) × (allB k (goodPlace q n) ≡ true)
+Inv-loop n count terms k₀ k = (k ≤ count) × (allB k (goodPlace (record { count = count; terms = terms }) n) ≡ true)
 
 abbrev μ-loop : tie.MeasureT-loop
-μ-loop q n count k₀ k = count - k
+μ-loop n count terms k₀ k = count - k
 
 returns : tie.Need-returns Inv-loop μ-loop
 unfolding goodTerms
@@ -25,14 +37,44 @@ loop-holds : tie.Need-loop-holds Inv-loop μ-loop
 unfolding allB
 loop-holds c = (omega arith, refl)
 
-good-place-requires : tie.Need-good-place-requires Inv-loop μ-loop
-good-place-requires c κs = search needs
+mul-t : tie.Need-mul-t Inv-loop μ-loop
+mul-t c = search needs
+
+array-copy-out-t : tie.Need-array-copy-out-t Inv-loop μ-loop
+array-copy-out-t c = search needs
+
+good-term-requires : tie.Need-good-term-requires Inv-loop μ-loop
+good-term-requires c κs = search needs
 
 returns-2 : tie.Need-returns-2 Inv-loop μ-loop
 unfolding goodTerms
 returns-2 c =
-    rw (le-leb _ _ (c .before .before .before .before .if1 .left))
-    (sym (all-stop _ _ _ (c .before .before .loop-test .taken) (sym (c .before .good-place .ensures) ∙ not-true _ (c .if2 .taken))))
+    let k = c .before .before .before .before .loop .k in
+    rw (le-leb _ _ (c .before .before .before .before .before .before .if1 .left))
+    (sym (all-stop _ _ k (c .before .before .before .loop-test .taken)
+    (bad-term _ _ k (sym (c .before .good-term .ensures) ∙ not-true _ (c .if2 .taken)))))
+
+sub-before : tie.Need-sub-before Inv-loop μ-loop
+sub-before c = search needs
+
+mul-u : tie.Need-mul-u Inv-loop μ-loop
+mul-u c = search needs
+
+array-copy-out-u : tie.Need-array-copy-out-u Inv-loop μ-loop
+array-copy-out-u c = search needs
+
+stands-before-requires : tie.Need-stands-before-requires Inv-loop μ-loop
+stands-before-requires c κs = search needs
+
+returns-3 : tie.Need-returns-3 Inv-loop μ-loop
+unfolding goodTerms
+returns-3 c =
+    let l = c .before .before .before .before .before .before .before .before .loop in
+    rw (le-leb _ _ (c .before .before .before .before .before .before .before .before .before .before .if1 .left))
+    (sym (all-stop _ _ (l .k) (c .before .before .before .before .before .before .before .loop-test .taken)
+    (place _ _ (l .k) true false
+    (sym (c .before .before .before .before .before .good-term .ensures) ∙ not-false _ (c .before .before .before .before .if2 .left))
+    (order-at _ _ (l .k) (c .before .before .before .if3 .taken) ∙ sym (c .before .stands-before .ensures) ∙ not-true _ (c .if4 .taken)))))
 
 add-k : tie.Need-add-k Inv-loop μ-loop
 add-k c = search needs
@@ -42,12 +84,21 @@ loop-less c = search needs
 
 loop-again : tie.Need-loop-again Inv-loop μ-loop
 loop-again c =
-    (omega arith, all-more _ _ (c .before .before .before .loop .inv .1) (sym (c .before .good-place .ensures) ∙ not-false _ (c .if2 .left)))
+    let l = c .before .before .before .before .before .loop in (
+      omega arith,
+      all-more _ _ (l .inv .1)
+          (place _ _ (l .k) true true
+          (sym (c .before .before .good-term .ensures) ∙ not-false _ (c .before .if2 .left))
+          (⊎-elim
+          (λ w. order-at _ _ (l .k) (w .0 .taken) ∙ sym (w .2 .ensures) ∙ not-false _ (w .3 .left))
+          (λ w. order-first _ _ (l .k) (w .left))
+          (c .if3 .came))),
+    )
 
-returns-3 : tie.Need-returns-3 Inv-loop μ-loop
+returns-4 : tie.Need-returns-4 Inv-loop μ-loop
 unfolding goodTerms
-returns-3 c =
-    rw (le-leb _ _ (c .before .before .if1 .left)) (sym (all-done _ (c .before .loop .inv .0) (c .loop-test .left) (c .before .loop .inv .1)))
+returns-4 c =
+    rw (le-leb _ _ (c .before .before .before .if1 .left)) (sym (all-done _ (c .before .loop .inv .0) (c .loop-test .left) (c .before .loop .inv .1)))
 
 pub good-terms-spec : {M : Type 1} → statement M
 good-terms-spec =
@@ -57,9 +108,16 @@ good-terms-spec =
     μ-loop
     returns
     loop-holds
-    good-place-requires
+    mul-t
+    array-copy-out-t
+    good-term-requires
     returns-2
+    sub-before
+    mul-u
+    array-copy-out-u
+    stands-before-requires
+    returns-3
     add-k
     loop-less
     loop-again
-    returns-3)
+    returns-4)
