@@ -5,8 +5,10 @@ ghost use Rattle.integers.specs.Least.{minℤ, maxℤ, min4, max4};
 ghost use Rattle.intervals.specs.Interval.{mark, pointI, addI, negI, scaleI, wideI, outI, mulI, midI, cutI, meetsI, insideI, sameI};
 ghost use Rattle.intervals.specs.Ranges.{FitsAdd, FitsNeg, FitsScale, FitsMul, FitsMid};
 
-// "one mark is 1/65,536"
-pub const MARK: i64 = 65536;
+// "one mark is 1/65,536": a division by it is a shift by so many places.
+const SHIFT: i64 = 16;
+
+pub const MARK: i64 = 1 << SHIFT;
 
 // [lo, hi], in marks.
 pub struct Interval {
@@ -14,22 +16,19 @@ pub struct Interval {
     pub hi: i64,
 }
 
-// The language's division cuts toward zero: with a remainder below zero that is one too much.
+// The shift rounds down, on negative numbers too; the language's division would cut toward zero.
 pub fn floor_div(x: i64) -> i64
     ensures { λ r. ⌜ r ≡ floorBy mark x ⌝ }
 {
-    let q = x / MARK;
-    let r = x % MARK;
-    if r < 0 { q - 1 } else { q }
+    x >> SHIFT
 }
 
-// With a remainder above zero the cut quotient is one too little.
+// Where something is left over, the quotient rounded down is one too little.
 pub fn ceil_div(x: i64) -> i64
     ensures { λ r. ⌜ r ≡ ceilBy mark x ⌝ }
 {
-    let q = x / MARK;
-    let r = x % MARK;
-    if 0 < r { q + 1 } else { q }
+    let q = floor_div(x);
+    if x % MARK == 0 { q } else { q + 1 }
 }
 
 pub fn least(a: i64, b: i64) -> i64
