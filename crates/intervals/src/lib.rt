@@ -110,6 +110,18 @@ pub fn mul_wide(a: Interval, b: Interval) -> Interval
     Interval { lo: lo, hi: hi }
 }
 
+// The exact product with the number c: only two of the four products of ends differ.
+pub fn mul_point(c: i64, x: Interval) -> Interval
+    requires { ⌜ FitsMul (pointI c) x ⌝ }
+    ensures { λ r. ⌜ r ≡ wideI (pointI c) x ⌝ }
+{
+    let p = c * x.lo;
+    let q = c * x.hi;
+    let lo = least(p, q);
+    let hi = greatest(p, q);
+    Interval { lo: lo, hi: hi }
+}
+
 // One outward rounding to marks.
 pub fn outward(a: Interval) -> Interval
     ensures { λ r. ⌜ r ≡ outI a ⌝ }

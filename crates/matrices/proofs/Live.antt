@@ -1,14 +1,9 @@
--- A scalar product looks at the live places alone: so a row of C may be handed to it as points.
-use mathlib.Core.Path.{_≡_, refl, ap, ap₂}
-use mathlib.Core.List.{List}
-use Prim.Native.Nat.{ℕ, _<_, _≤_}
+-- A scalar product looks at the live places alone.
+use mathlib.Core.Path.{_≡_, ap, ap₂}
+use Prim.Native.Nat.{ℕ, _<_}
 use lib.IntN.{ℤ}
-use Rattle.sizes.specs.Sizes.{nMax}
-use Rattle.lists.proofs.Tab.{tab-cong}
-use Rattle.intervals.specs.Interval.{zeroI, pointI, addI, negI, wideI, outI}
-use Rattle.intervals.proofs.Places.{side-made}
+use Rattle.intervals.specs.Interval.{pointI, addI, negI, wideI, outI}
 use Rattle.intervals.proofs.Sums.{sumI-cong}
-use Rattle.intervals.specs.Places.{sideAt, vectorOf}
 use Rattle.intervals.specs.declared.Interval.{Interval}
 use Rattle.matrices.specs.Products.{dotI, unitZ, entryB, dOf, bOf, eOf}
 
@@ -35,14 +30,3 @@ pub e-cong : (n : ℕ) (B B' : ℕ → ℕ → Interval) {Z Z' : ℕ → Interva
     → eOf n B Z i ≡ eOf n B' Z' i
 unfolding eOf
 e-cong n B B' i b z = ap outI (dot-cong n b z)
-
--- the row i of C, as points
-module _ (n : ℕ) (room : n ≤ nMax) (C : ℕ → ℕ → ℤ) (i : ℕ) {row : List Interval} (e : row ≡ vectorOf n (λ k. pointI (C i k))) where
-  pub d-made : (F : ℕ → Interval) → outI (dotI n (sideAt row) F) ≡ dOf n C F i
-  unfolding dOf
-  d-made F = ap outI (dot-cong n (side-made n room (λ k. pointI (C i k)) e) (λ k _. refl))
-
-  pub b-made : (S : ℕ → ℕ → Interval) → vectorOf n (λ j. entryB n (sideAt row) (λ k. S k j) i j) ≡ vectorOf n (bOf n C S i)
-  unfolding bOf
-  b-made S = tab-cong zeroI nMax n (λ j. entryB n (sideAt row) (λ k. S k j) i j) (λ j. entryB n (λ k. pointI (C i k)) (λ k. S k j) i j)
-      (λ j _. entry-cong n (side-made n room (λ k. pointI (C i k)) e) (λ k _. refl) i j)

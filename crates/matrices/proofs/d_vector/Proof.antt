@@ -1,4 +1,4 @@
--- d_vector: each turn makes one entry of D.
+-- d_vector: each turn makes one entry of D, each turn within it adds one exact product.
 use mathlib.Core.Path.{_≡_, ap, _∙_}
 use Prim.Native.Nat.{_≤_, _-_}
 use native.Mathlib.Omega.{arith}
@@ -6,72 +6,124 @@ use borrow.Author.Needs.{needs}
 use Rattle.sizes.specs.Sizes.{nMax}
 use Rattle.lists.specs.Loops.{tab}
 use Rattle.lists.proofs.Tab.{tab-none, tab-more, tab-done}
-use Rattle.intervals.specs.Interval.{zeroI, outI}
+use Rattle.intervals.specs.Interval.{zeroI, pointI, outI}
 use Rattle.intervals.specs.Places.{entryAt, sideAt}
-use Rattle.matrices.specs.Products.{dOf}
-use Rattle.matrices.proofs.Live.{d-made}
-use Rattle.matrices.proofs.Ranges.{dot-d}
+use Rattle.intervals.proofs.Sums.{sumI-none, sumI-more, sumI-done}
+use Rattle.matrices.specs.Products.{dotI, dOf}
+use Rattle.matrices.proofs.Ranges.{product-fits, more-fits, read-fits, read-back, dot-d}
 use Rattle.matrices.proofs.d_vector.Statement.{statement}
 use Rattle.matrices.proofs.d_vector.Tie as tie
 
+abbrev Inv-loop2 : tie.InvT-loop2
+Inv-loop2 n c f d i row sum₀ k₀ sum k = (k ≤ n) × (sum ≡ dotI k (λ m. pointI (entryAt c i m)) (sideAt f))
+
+abbrev μ-loop2 : tie.MeasureT-loop2
+μ-loop2 n c f d i row sum₀ k₀ sum k = n - k
+
 abbrev Inv-loop : tie.InvT-loop
-Inv-loop f n c d₀ i₀ d i = (i ≤ n) × (d ≡ tab nMax i zeroI (dOf n (entryAt c) (sideAt f)))
+Inv-loop n c f d₀ i₀ d i = (i ≤ n) × (d ≡ tab nMax i zeroI (dOf n (entryAt c) (sideAt f)))
 
 abbrev μ-loop : tie.MeasureT-loop
-μ-loop f n c d₀ i₀ d i = n - i
+μ-loop n c f d₀ i₀ d i = n - i
 
-loop-holds : tie.Need-loop-holds Inv-loop μ-loop
+loop-holds : tie.Need-loop-holds Inv-loop2 μ-loop2 Inv-loop μ-loop
 loop-holds c = (omega arith, tab-none zeroI nMax _)
 
-mul-points : tie.Need-mul-points Inv-loop μ-loop
-mul-points c = omega arith
+mul-row : tie.Need-mul-row Inv-loop2 μ-loop2 Inv-loop μ-loop
+mul-row c = omega arith
 
-array-copy-out-points : tie.Need-array-copy-out-points Inv-loop μ-loop
-array-copy-out-points c = omega arith
+array-copy-out-row : tie.Need-array-copy-out-row Inv-loop2 μ-loop2 Inv-loop μ-loop
+array-copy-out-row c = omega arith
 
-points-requires : tie.Need-points-requires Inv-loop μ-loop
-points-requires c κs = search needs
+loop2-holds : tie.Need-loop2-holds Inv-loop2 μ-loop2 Inv-loop μ-loop
+unfolding dotI
+loop2-holds c = (omega arith, sumI-none _)
 
-dot-requires : tie.Need-dot-requires Inv-loop μ-loop
-dot-requires c κs = let t = c .before .before in dot-d (t .before .before .pre) (t .before .loop .i) (t .loop-test .taken) (c .points .ensures)
+mul-mul-point : tie.Need-mul-mul-point Inv-loop2 μ-loop2 Inv-loop μ-loop
+mul-mul-point c = omega arith
 
-outward-requires : tie.Need-outward-requires Inv-loop μ-loop
+array-copy-out-mul-point : tie.Need-array-copy-out-mul-point Inv-loop2 μ-loop2 Inv-loop μ-loop
+array-copy-out-mul-point c = omega arith
+
+mul-mul-point-2 : tie.Need-mul-mul-point-2 Inv-loop2 μ-loop2 Inv-loop μ-loop
+mul-mul-point-2 c = omega arith
+
+array-copy-out-mul-point-2 : tie.Need-array-copy-out-mul-point-2 Inv-loop2 μ-loop2 Inv-loop μ-loop
+array-copy-out-mul-point-2 c = omega arith
+
+mul-point-requires : tie.Need-mul-point-requires Inv-loop2 μ-loop2 Inv-loop μ-loop
+mul-point-requires c κs =
+    let t = c .before .before in
+    let o = t .before .before .before in
+    let within = dot-d (o .before .before .pre) (o .before .loop .i) (o .loop-test .taken) in
+    read-fits (c .before .mul-point-arg .given) (product-fits within (t .before .loop2 .k) (t .loop2-test .taken))
+
+add-requires : tie.Need-add-requires Inv-loop2 μ-loop2 Inv-loop μ-loop
+add-requires c κs =
+    let t = c .before .before .before in
+    let o = t .before .before .before in
+    let within = dot-d (o .before .before .pre) (o .before .loop .i) (o .loop-test .taken) in
+    more-fits within (t .before .loop2 .k) (t .loop2-test .taken) (t .before .loop2 .inv .1) (read-back _ _ (c .before .before .mul-point-arg .given) (c .mul-point .ensures))
+
+add-k : tie.Need-add-k Inv-loop2 μ-loop2 Inv-loop μ-loop
+add-k c = omega arith
+
+loop2-less : tie.Need-loop2-less Inv-loop2 μ-loop2 Inv-loop μ-loop
+loop2-less c = omega arith
+
+loop2-again : tie.Need-loop2-again Inv-loop2 μ-loop2 Inv-loop μ-loop
+unfolding dotI
+loop2-again c =
+    let a = c .before .before .before in
+    (omega arith, sumI-more _ _ (c .add .ensures) (a .before .before .loop2 .inv .1) (read-back _ _ (a .mul-point-arg .given) (c .before .mul-point .ensures)))
+
+outward-requires : tie.Need-outward-requires Inv-loop2 μ-loop2 Inv-loop μ-loop
 outward-requires c κs = search needs
 
-mul-d : tie.Need-mul-d Inv-loop μ-loop
+mul-d : tie.Need-mul-d Inv-loop2 μ-loop2 Inv-loop μ-loop
 mul-d c = omega arith
 
-array-set-from-d : tie.Need-array-set-from-d Inv-loop μ-loop
+array-set-from-d : tie.Need-array-set-from-d Inv-loop2 μ-loop2 Inv-loop μ-loop
 array-set-from-d c = omega arith
 
-add-i : tie.Need-add-i Inv-loop μ-loop
+add-i : tie.Need-add-i Inv-loop2 μ-loop2 Inv-loop μ-loop
 add-i c = omega arith
 
-loop-less : tie.Need-loop-less Inv-loop μ-loop
+loop-less : tie.Need-loop-less Inv-loop2 μ-loop2 Inv-loop μ-loop
 loop-less c = omega arith
 
-loop-again : tie.Need-loop-again Inv-loop μ-loop
+loop-again : tie.Need-loop-again Inv-loop2 μ-loop2 Inv-loop μ-loop
+unfolding dotI dOf
 loop-again c =
-    let p = c .before .before in
-    let l = p .before .before .before in
-    let s = l .before in
-    let made = d-made (s .args .n) (s .pre .room) (entryAt (s .args .t1)) (l .loop .i) (p .points .ensures) (sideAt (s .args .f)) in
-    (omega arith, tab-more zeroI nMax _ _ (omega arith) (l .loop .inv .1) (c .outward .ensures ∙ ap outI (c .before .dot .ensures) ∙ made))
+    let u = c .before .before in
+    let l = u .before .before .before in
+    let sum = sumI-done _ (u .loop2 .inv .0) (c .before .loop2-test .left) (u .loop2 .inv .1) in
+    (omega arith, tab-more zeroI nMax _ _ (omega arith) (l .loop .inv .1) (c .outward .ensures ∙ ap outI sum))
 
-returns : tie.Need-returns Inv-loop μ-loop
+returns : tie.Need-returns Inv-loop2 μ-loop2 Inv-loop μ-loop
 returns c = tab-done zeroI nMax _ (c .before .loop .inv .0) (c .loop-test .left) (c .before .loop .inv .1)
 
 pub d-vector-spec : {M : Type 1} → statement M
 d-vector-spec =
     tie.close
     (tie.spec
+    Inv-loop2
+    μ-loop2
     Inv-loop
     μ-loop
     loop-holds
-    mul-points
-    array-copy-out-points
-    points-requires
-    dot-requires
+    mul-row
+    array-copy-out-row
+    loop2-holds
+    mul-mul-point
+    array-copy-out-mul-point
+    mul-mul-point-2
+    array-copy-out-mul-point-2
+    mul-point-requires
+    add-requires
+    add-k
+    loop2-less
+    loop2-again
     outward-requires
     mul-d
     array-set-from-d

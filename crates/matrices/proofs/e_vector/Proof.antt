@@ -1,4 +1,4 @@
--- e_vector: each turn makes one entry of E.
+-- e_vector: each turn makes one entry of E, each turn within it adds one exact product.
 use mathlib.Core.Path.{_≡_, ap, _∙_}
 use Prim.Native.Nat.{_≤_, _-_}
 use native.Mathlib.Omega.{arith}
@@ -8,63 +8,121 @@ use Rattle.lists.specs.Loops.{tab}
 use Rattle.lists.proofs.Tab.{tab-none, tab-more, tab-done}
 use Rattle.intervals.specs.Interval.{zeroI, outI}
 use Rattle.intervals.specs.Places.{cellAt, sideAt}
-use Rattle.matrices.specs.Products.{eOf}
-use Rattle.matrices.proofs.Ranges.{dot-e}
+use Rattle.intervals.proofs.Sums.{sumI-none, sumI-more, sumI-done}
+use Rattle.matrices.specs.Products.{dotI, eOf}
+use Rattle.matrices.proofs.Ranges.{product-fits, more-fits, dot-e}
 use Rattle.matrices.proofs.e_vector.Statement.{statement}
 use Rattle.matrices.proofs.e_vector.Tie as tie
 
+abbrev Inv-loop2 : tie.InvT-loop2
+Inv-loop2 n b z e i row sum₀ k₀ sum k = (k ≤ n) × (sum ≡ dotI k (cellAt b i) (sideAt z))
+
+abbrev μ-loop2 : tie.MeasureT-loop2
+μ-loop2 n b z e i row sum₀ k₀ sum k = n - k
+
 abbrev Inv-loop : tie.InvT-loop
-Inv-loop z n b e₀ i₀ e i = (i ≤ n) × (e ≡ tab nMax i zeroI (eOf n (cellAt b) (sideAt z)))
+Inv-loop n b z e₀ i₀ e i = (i ≤ n) × (e ≡ tab nMax i zeroI (eOf n (cellAt b) (sideAt z)))
 
 abbrev μ-loop : tie.MeasureT-loop
-μ-loop z n b e₀ i₀ e i = n - i
+μ-loop n b z e₀ i₀ e i = n - i
 
-loop-holds : tie.Need-loop-holds Inv-loop μ-loop
+loop-holds : tie.Need-loop-holds Inv-loop2 μ-loop2 Inv-loop μ-loop
 loop-holds c = (omega arith, tab-none zeroI nMax _)
 
-mul-dot : tie.Need-mul-dot Inv-loop μ-loop
-mul-dot c = omega arith
+mul-row : tie.Need-mul-row Inv-loop2 μ-loop2 Inv-loop μ-loop
+mul-row c = omega arith
 
-array-copy-out-dot : tie.Need-array-copy-out-dot Inv-loop μ-loop
-array-copy-out-dot c = omega arith
+array-copy-out-row : tie.Need-array-copy-out-row Inv-loop2 μ-loop2 Inv-loop μ-loop
+array-copy-out-row c = omega arith
 
-dot-requires : tie.Need-dot-requires Inv-loop μ-loop
-dot-requires c κs = let t = c .before in dot-e (t .before .before .pre) (t .before .loop .i) (t .loop-test .taken)
+loop2-holds : tie.Need-loop2-holds Inv-loop2 μ-loop2 Inv-loop μ-loop
+unfolding dotI
+loop2-holds c = (omega arith, sumI-none _)
 
-outward-requires : tie.Need-outward-requires Inv-loop μ-loop
+mul-mul-wide : tie.Need-mul-mul-wide Inv-loop2 μ-loop2 Inv-loop μ-loop
+mul-mul-wide c = omega arith
+
+array-copy-out-mul-wide : tie.Need-array-copy-out-mul-wide Inv-loop2 μ-loop2 Inv-loop μ-loop
+array-copy-out-mul-wide c = omega arith
+
+mul-mul-wide-2 : tie.Need-mul-mul-wide-2 Inv-loop2 μ-loop2 Inv-loop μ-loop
+mul-mul-wide-2 c = omega arith
+
+array-copy-out-mul-wide-2 : tie.Need-array-copy-out-mul-wide-2 Inv-loop2 μ-loop2 Inv-loop μ-loop
+array-copy-out-mul-wide-2 c = omega arith
+
+mul-wide-requires : tie.Need-mul-wide-requires Inv-loop2 μ-loop2 Inv-loop μ-loop
+mul-wide-requires c κs =
+    let t = c .before .before in
+    let o = t .before .before .before in
+    product-fits (dot-e (o .before .before .pre) (o .before .loop .i) (o .loop-test .taken)) (t .before .loop2 .k) (t .loop2-test .taken)
+
+add-requires : tie.Need-add-requires Inv-loop2 μ-loop2 Inv-loop μ-loop
+add-requires c κs =
+    let t = c .before .before .before in
+    let o = t .before .before .before in
+    let within = dot-e (o .before .before .pre) (o .before .loop .i) (o .loop-test .taken) in
+    more-fits within (t .before .loop2 .k) (t .loop2-test .taken) (t .before .loop2 .inv .1) (c .mul-wide .ensures)
+
+add-k : tie.Need-add-k Inv-loop2 μ-loop2 Inv-loop μ-loop
+add-k c = omega arith
+
+loop2-less : tie.Need-loop2-less Inv-loop2 μ-loop2 Inv-loop μ-loop
+loop2-less c = omega arith
+
+loop2-again : tie.Need-loop2-again Inv-loop2 μ-loop2 Inv-loop μ-loop
+unfolding dotI
+loop2-again c =
+    let a = c .before .before .before in
+    (omega arith, sumI-more _ _ (c .add .ensures) (a .before .before .loop2 .inv .1) (c .before .mul-wide .ensures))
+
+outward-requires : tie.Need-outward-requires Inv-loop2 μ-loop2 Inv-loop μ-loop
 outward-requires c κs = search needs
 
-mul-e : tie.Need-mul-e Inv-loop μ-loop
+mul-e : tie.Need-mul-e Inv-loop2 μ-loop2 Inv-loop μ-loop
 mul-e c = omega arith
 
-array-set-from-e : tie.Need-array-set-from-e Inv-loop μ-loop
+array-set-from-e : tie.Need-array-set-from-e Inv-loop2 μ-loop2 Inv-loop μ-loop
 array-set-from-e c = omega arith
 
-add-i : tie.Need-add-i Inv-loop μ-loop
+add-i : tie.Need-add-i Inv-loop2 μ-loop2 Inv-loop μ-loop
 add-i c = omega arith
 
-loop-less : tie.Need-loop-less Inv-loop μ-loop
+loop-less : tie.Need-loop-less Inv-loop2 μ-loop2 Inv-loop μ-loop
 loop-less c = omega arith
 
-loop-again : tie.Need-loop-again Inv-loop μ-loop
-unfolding eOf
+loop-again : tie.Need-loop-again Inv-loop2 μ-loop2 Inv-loop μ-loop
+unfolding dotI eOf
 loop-again c =
-    let l = c .before .before .before .before in
-    (omega arith, tab-more zeroI nMax _ _ (omega arith) (l .loop .inv .1) (c .outward .ensures ∙ ap outI (c .before .dot .ensures)))
+    let u = c .before .before in
+    let l = u .before .before .before in
+    let sum = sumI-done _ (u .loop2 .inv .0) (c .before .loop2-test .left) (u .loop2 .inv .1) in
+    (omega arith, tab-more zeroI nMax _ _ (omega arith) (l .loop .inv .1) (c .outward .ensures ∙ ap outI sum))
 
-returns : tie.Need-returns Inv-loop μ-loop
+returns : tie.Need-returns Inv-loop2 μ-loop2 Inv-loop μ-loop
 returns c = tab-done zeroI nMax _ (c .before .loop .inv .0) (c .loop-test .left) (c .before .loop .inv .1)
 
 pub e-vector-spec : {M : Type 1} → statement M
 e-vector-spec =
     tie.close
     (tie.spec
+    Inv-loop2
+    μ-loop2
     Inv-loop
     μ-loop
     loop-holds
-    mul-dot
-    array-copy-out-dot
-    dot-requires
+    mul-row
+    array-copy-out-row
+    loop2-holds
+    mul-mul-wide
+    array-copy-out-mul-wide
+    mul-mul-wide-2
+    array-copy-out-mul-wide-2
+    mul-wide-requires
+    add-requires
+    add-k
+    loop2-less
+    loop2-again
     outward-requires
     mul-e
     array-set-from-e
