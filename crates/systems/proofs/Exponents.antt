@@ -20,6 +20,11 @@ pub lowered-other : (j : ℕ) (e : ℕ → ℕ) (k : ℕ) → (k ≡ j → ⊥) 
 unfolding lowered
 lowered-other j e k h = rw (ne-eqb k j h)
 
+-- unknown k's alone
+pub lowered-at : (j : ℕ) (e : ℕ → ℕ) (k : ℕ) → lowered j (λ _. e k) k ≡ lowered j e k
+unfolding lowered
+lowered-at j e k = refl
+
 -- the exponents of a row's equation
 pub unit-here : (t k : ℕ) → k ≡ t → unitE t k ≡ 1
 unfolding unitE

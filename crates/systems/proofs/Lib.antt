@@ -3,6 +3,7 @@ pub mod Degrees
 pub mod Cases
 pub mod Places
 pub mod Ranges
+pub mod Rows
 pub mod Factors
 pub mod Values
 pub mod Walk

@@ -1,5 +1,5 @@
 -- How large terms, equations and slopes can be: with document 01's sizes no sum leaves 64 bits. The bounds do not depend on n.
-use mathlib.Core.Path.{_≡_, refl, ap}
+use mathlib.Core.Path.{_≡_, refl, ap, _∙_}
 use mathlib.Core.List.{[]}
 use Prim.Native.Nat.{ℕ, zero, suc, _+_, _*_, _^_, _<_, _≤_}
 use native.Mathlib.Nat.{le-trans, le-refl, le-of-eq, not-suc-le-zero, mul-le-mul-right, pos-of-ne-zero}
@@ -22,6 +22,7 @@ use Rattle.jobs.specs.declared.Equation.{Equation}
 use Rattle.systems.specs.Terms.{coefOf, expsOf, factorI, termOver, equationOver, lowered, termSlope, slopeOver, valuesOver, slopesOver}
 use Rattle.systems.specs.Ranges.{BoxIn, TermIn, EquationIn, SystemIn, FactorIn, grow}
 use Rattle.systems.proofs.Cases.{term-next, slope-none, slope-some}
+use Rattle.systems.proofs.Exponents.{lowered-at}
 use Rattle.systems.proofs.Places.{values-at, slopes-at}
 use Rattle.systems.proofs.Degrees.{degree-next, degree-mono, degree-lowered, exponent-degree}
 
@@ -56,7 +57,7 @@ pub factor-fits : {e : ℕ} {a x : Interval} → FactorIn e a x → (i : ℕ) �
 factor-fits {e} p i l = fits-mul (omega (arith, grow-mono i e (p .size) l, p .room)) (in-factor i (p .start) (p .unknown)) (p .unknown)
 
 -- a lowered term is a term of document 01 too
-pub lowered-in : {n : ℕ} {c : ℤ} {e : ℕ → ℕ} (j : ℕ) → j < n → 0 < e j → TermIn n c e → TermIn n c (lowered j e)
+lowered-in : {n : ℕ} {c : ℤ} {e : ℕ → ℕ} (j : ℕ) → j < n → 0 < e j → TermIn n c e → TermIn n c (lowered j e)
 lowered-in {n} {e = e} j l s h = record { coef = h .coef; deg = omega (arith, degree-lowered e n j l s, h .deg) }
 
 -- a sum of at most 16 parts: its bound, and what each addition asks
@@ -94,6 +95,10 @@ module _ {n : ℕ} {X : ℕ → Interval} (box : BoxIn n X) where
     in-lowered s =
         let d = degree-lowered e n j l s in
         in-more (lowered-cap (degree n (lowered j e)) (omega (arith, h .deg))) (in-first (lowered-in j l s h) n (le-refl n))
+
+    -- what the lowered term asks at unknown k
+    pub lowered-factor : 0 < e j → (k : ℕ) → k < n → {d : ℕ} {a : Interval} → a ≡ termOver k c (lowered j e) X → d ≡ lowered j (λ _. e k) k → FactorIn d a (X k)
+    lowered-factor s k m p q = rw (p, q ∙ lowered-at j e k) (term-factor (lowered-in j l s h) k m)
 
     pub slope-fits : 0 < e j → FitsScale (e j) (termOver n c (lowered j e) X)
     slope-fits s = fits-scale (e j) (omega (arith, exponent-degree e n j l, h .deg)) (in-lowered s)

@@ -5,14 +5,13 @@ use mathlib.Core.List.{List}
 use Prim.Native.Nat.{ℕ, _-_}
 use lib.Dec.{eqb}
 use lib.IntN.{ℤ}
-use lib.ListN.{set, replicate}
+use lib.ListN.{replicate}
 use Rattle.sizes.specs.Sizes.{nMax}
 use Rattle.lists.specs.Loops.{tab, carry}
 use Rattle.intervals.specs.Interval.{zeroI, pointI, scaleI, mulI, sumI}
 use Rattle.intervals.specs.Places.{vectorOf}
 use Rattle.jobs.specs.Places.{expOf, termAt}
 use Rattle.intervals.specs.declared.Interval.{Interval}
-use Rattle.jobs.specs.declared.Term.{Term}
 use Rattle.jobs.specs.declared.Equation.{Equation}
 
 -- the coefficient and the exponents of term t of an equation
@@ -56,7 +55,3 @@ slopeRow n q X = vectorOf n (λ j. slopeOver n q j X)
 
 unfoldable pub slopesOver : ℕ → (ℕ → Equation) → (ℕ → Interval) → List (List Interval)
 slopesOver n q X = tab nMax n (replicate nMax zeroI) (λ i. slopeRow n (q i) X)
-
--- the code's term with the exponent of unknown j lowered
-abbrev pub lowerTerm : ℕ → Term → Term
-lowerTerm j t = record { coef = t .coef; exps = set (t .exps) j (expOf t j - 1) }

@@ -13,8 +13,8 @@ ghost use Rattle.lists.specs.Loops.{tab};
 ghost use Rattle.sizes.specs.Sizes.{nMax, entryMax};
 ghost use Rattle.intervals.specs.Interval.{pointI};
 ghost use Rattle.intervals.specs.Places.{sideAt, numberAt};
-ghost use Rattle.jobs.specs.Places.{expOf, equationAt};
-ghost use Rattle.systems.specs.Terms.{factorI, termOver, equationOver, lowerTerm, termSlope, slopeOver, valuesOver, slopeRow, slopesOver};
+ghost use Rattle.jobs.specs.Places.{equationAt};
+ghost use Rattle.systems.specs.Terms.{factorI, equationOver, lowered, valuesOver, slopeRow, slopesOver};
 ghost use Rattle.systems.specs.Kinds.{unitE, vectorE, eigenE, rowCoef, linearEquation, eigenEquation, equationOf, equationsOf};
 ghost use Rattle.systems.specs.Ranges.{FactorIn, BoxIn, TermIn, EquationIn, SystemIn, JobIn};
 
@@ -40,19 +40,6 @@ pub fn start(t: Term) -> Interval
     }
 }
 
-pub fn term_over(t: Term, x: [Interval; N], n: usize) -> Interval
-    requires { ⌜ BoxIn n (sideAt x) ⌝ }
-    requires { ⌜ TermIn n (t .coef) (expOf t) ⌝ }
-    ensures { λ r. ⌜ r ≡ termOver n (t .coef) (expOf t) (sideAt x) ⌝ }
-{
-    let mut a = start(t);
-    for k in 0..n {
-        let e = t.exps[k];
-        a = factor(a, x[k], e);
-    }
-    a
-}
-
 pub fn equation_over(q: Equation, x: [Interval; N], n: usize) -> Interval
     requires { ⌜ BoxIn n (sideAt x) ⌝ }
     requires { ⌜ EquationIn n q ⌝ }
@@ -62,49 +49,22 @@ pub fn equation_over(q: Equation, x: [Interval; N], n: usize) -> Interval
     let count = q.count;
     for i in 0..count {
         let t = q.terms[i];
-        s = intervals::add(s, term_over(t, x, n));
+        let mut a = start(t);
+        for k in 0..n {
+            let e = t.exps[k];
+            a = factor(a, x[k], e);
+        }
+        s = intervals::add(s, a);
     }
     s
 }
 
-// The exponent of unknown j lowered by one.
-pub fn lower(t: Term, j: usize) -> Term
-    requires { ⌜ (j < nMax) × (0 < expOf t j) ⌝ }
-    ensures { λ r. ⌜ r ≡ lowerTerm j t ⌝ }
+// The exponent d of unknown k, where that of unknown j is lowered by one.
+pub fn less(d: u8, k: usize, j: usize) -> u8
+    requires { ⌜ (k ≡ j → 0 < d) ⌝ }
+    ensures { λ r. ⌜ r ≡ lowered j (λ _. d) k ⌝ }
 {
-    let mut low = t;
-    let e = t.exps[j];
-    low.exps[j] = e - 1;
-    low
-}
-
-// A term's part of the slope in unknown j.
-pub fn term_slope(t: Term, j: usize, x: [Interval; N], n: usize) -> Interval
-    requires { ⌜ BoxIn n (sideAt x) ⌝ }
-    requires { ⌜ TermIn n (t .coef) (expOf t) ⌝ }
-    requires { ⌜ j < n ⌝ }
-    ensures { λ r. ⌜ r ≡ termSlope n (t .coef) (expOf t) j (sideAt x) ⌝ }
-{
-    let e = t.exps[j];
-    if e == 0 {
-        return Interval { lo: 0, hi: 0 };
-    }
-    intervals::scaled(e, term_over(lower(t, j), x, n))
-}
-
-pub fn slope_over(q: Equation, j: usize, x: [Interval; N], n: usize) -> Interval
-    requires { ⌜ BoxIn n (sideAt x) ⌝ }
-    requires { ⌜ EquationIn n q ⌝ }
-    requires { ⌜ j < n ⌝ }
-    ensures { λ r. ⌜ r ≡ slopeOver n q j (sideAt x) ⌝ }
-{
-    let mut s = Interval { lo: 0, hi: 0 };
-    let count = q.count;
-    for i in 0..count {
-        let t = q.terms[i];
-        s = intervals::add(s, term_slope(t, j, x, n));
-    }
-    s
+    if k == j { d - 1 } else { d }
 }
 
 // F: the equations over a box.
@@ -121,15 +81,27 @@ pub fn values_over(eqs: [Equation; N], x: [Interval; N], n: usize) -> [Interval;
     f
 }
 
-// The slopes of one equation.
+// The slopes of one equation: each term is taken once and gives its part to each of them.
 pub fn slope_row(q: Equation, x: [Interval; N], n: usize) -> [Interval; N]
     requires { ⌜ BoxIn n (sideAt x) ⌝ }
     requires { ⌜ EquationIn n q ⌝ }
     ensures { λ r. ⌜ r ≡ slopeRow n q (sideAt x) ⌝ }
 {
     let mut s = [Interval { lo: 0, hi: 0 }; N];
-    for j in 0..n {
-        s[j] = slope_over(q, j, x, n);
+    let count = q.count;
+    for i in 0..count {
+        let t = q.terms[i];
+        for j in 0..n {
+            let e = t.exps[j];
+            if e != 0 {
+                let mut a = start(t);
+                for k in 0..n {
+                    let d = t.exps[k];
+                    a = factor(a, x[k], less(d, k, j));
+                }
+                s[j] = intervals::add(s[j], intervals::scaled(e, a));
+            }
+        }
     }
     s
 }

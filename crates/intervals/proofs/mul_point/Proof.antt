@@ -1,6 +1,6 @@
 -- mul_point: both ends of the left factor are c, so two of the four products are the other two again.
 use borrow.Author.Needs.{needs}
-use mathlib.Core.Path.{_≡_, refl, _∙_}
+use mathlib.Core.Path.{_≡_, refl}
 use lib.IntN.{_*ℤ_}
 use mir.Facts.{toZ-ofZ}
 use mir.Syntax.{w64}

@@ -63,7 +63,8 @@ add-requires c κs =
     let t = c .before .before .before in
     let o = t .before .before .before in
     let within = dot-d (o .before .before .pre) (o .before .loop .i) (o .loop-test .taken) in
-    more-fits within (t .before .loop2 .k) (t .loop2-test .taken) (t .before .loop2 .inv .1) (read-back _ _ (c .before .before .mul-point-arg .given) (c .mul-point .ensures))
+    let product = read-back _ _ (c .before .before .mul-point-arg .given) (c .mul-point .ensures) in
+    more-fits within (t .before .loop2 .k) (t .loop2-test .taken) (t .before .loop2 .inv .1) product
 
 add-k : tie.Need-add-k Inv-loop2 μ-loop2 Inv-loop μ-loop
 add-k c = omega arith
