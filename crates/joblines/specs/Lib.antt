@@ -2,3 +2,4 @@ pub mod Words
 pub mod Places
 pub mod Reading
 pub mod JobLines
+pub mod Says

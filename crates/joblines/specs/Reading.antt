@@ -1,9 +1,9 @@
 -- What is read of a job text so far: the status, the number and the kind of the next line, and what the lines before it say.
-use Prim.Native.Nat.{ℕ, _+_, _≤_}
+use Prim.Native.Nat.{ℕ, _+_}
 use mathlib.Core.List.{List}
 use lib.ListN.{set, replicate}
 use lib.IntN.{ℤ, pos}
-use Rattle.sizes.specs.Sizes.{nMax, textMax}
+use Rattle.sizes.specs.Sizes.{nMax}
 use Rattle.jobs.specs.Zero.{zeroEquation}
 use Rattle.jobs.specs.declared.Fault.{Fault}
 use Rattle.jobs.specs.declared.Status.{Status}
@@ -198,8 +198,3 @@ noJob =
 
 abbrev pub startReading : Reading
 startReading = record { status = Status.Done; line = 1; next = Line.Number; job = noJob }
-
--- what a line's reader relies on
-pub record Limits (s : Reading) : Type 0 where
-  pub line : s .line ≤ textMax
-  pub few : s .job .n ≤ nMax

@@ -4,12 +4,11 @@ mod places;
 pub mod system;
 
 ghost use mathlib.Core.Path.{_≡_};
-ghost use Prim.Native.Nat.{_≤_};
-ghost use Rattle.sizes.specs.Sizes.{textMax};
-ghost use Rattle.joblines.specs.Reading.{badLine, goodLine, judged, noJob, startReading};
-use jobs::Fault;
+ghost use Rattle.joblines.specs.Reading.{noJob};
+use jobs::Equation;
 use jobs::Job;
 use jobs::Kind;
+use jobs::Row;
 use jobs::Status;
 use places::zero_row;
 use sizes::N;
@@ -33,12 +32,55 @@ pub enum Word {
     Bad,
 }
 
-// What is read so far: the status, the number and the kind of the next line, and what the lines before it say.
+// What is read so far: the status, the number and the kind of the next line, and what the lines before it say. The definitions of specs/ go from
+// one Reading to the next; the reader keeps its parts in variables, since a Reading in and out of each function is a copy of the whole job.
 pub struct Reading {
     pub status: Status,
     pub line: u64,
     pub next: Line,
     pub job: Job,
+}
+
+// What one line says, with its status. Beside a fault the value is any.
+pub struct CountLine {
+    pub status: Status,
+    pub count: u64,
+}
+
+pub struct KindLine {
+    pub status: Status,
+    pub kind: Kind,
+}
+
+pub struct UnknownsLine {
+    pub status: Status,
+    pub n: usize,
+}
+
+pub struct CellsLine {
+    pub status: Status,
+    pub cells: [i64; N],
+}
+
+pub struct RowsLine {
+    pub status: Status,
+    pub rows: [Row; N],
+}
+
+pub struct SidedLine {
+    pub status: Status,
+    pub row: Row,
+    pub side: i64,
+}
+
+pub struct RowLine {
+    pub status: Status,
+    pub row: Row,
+}
+
+pub struct EquationLine {
+    pub status: Status,
+    pub equation: Equation,
 }
 
 pub fn no_job() -> Job
@@ -57,61 +99,5 @@ pub fn no_job() -> Job
         eqs: [equation; N],
         rows: [row; N],
         right: [0; N],
-    }
-}
-
-pub fn start() -> Reading
-    ensures { λ r. ⌜ r ≡ startReading ⌝ }
-{
-    Reading {
-        status: Status::Done,
-        line: 1,
-        next: Line::Number,
-        job: no_job(),
-    }
-}
-
-pub fn bad(s: Reading, f: Fault) -> Reading
-    ensures { λ r. ⌜ r ≡ badLine s f ⌝ }
-{
-    let next = s.next;
-    let job = s.job;
-    Reading {
-        status: Status::Refused(f, s.line),
-        line: s.line,
-        next,
-        job,
-    }
-}
-
-fn good(s: Reading, next: Line, job: Job) -> Reading
-    requires { ⌜ s .line ≤ textMax ⌝ }
-    ensures { λ r. ⌜ r ≡ goodLine s next job ⌝ }
-{
-    Reading {
-        status: Status::Done,
-        line: s.line + 1,
-        next,
-        job,
-    }
-}
-
-// A line by the status of what it says.
-fn judge(status: Status, s: Reading, next: Line, job: Job) -> Reading
-    requires { ⌜ s .line ≤ textMax ⌝ }
-    ensures { λ r. ⌜ r ≡ judged status s next job ⌝ }
-{
-    match status {
-        Status::Done => good(s, next, job),
-        Status::Refused(f, line) => {
-            let next = s.next;
-            let job = s.job;
-            Reading {
-                status: Status::Refused(f, line),
-                line: s.line,
-                next,
-                job,
-            }
-        }
     }
 }

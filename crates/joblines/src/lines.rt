@@ -2,22 +2,22 @@
 ghost use mathlib.Core.Path.{_≡_};
 ghost use Prim.Native.Nat.{_≤_};
 ghost use lib.ListN.{length};
-ghost use Rattle.sizes.specs.Sizes.{textMax};
-ghost use Rattle.joblines.specs.Reading.{Limits};
-ghost use Rattle.joblines.specs.JobLines.{numberValue, numberLine, kindOf, kindValue, kindLine, oneDigit, nDigit, nValue, nLine};
-ghost use Rattle.joblines.specs.JobLines.{loValue, loLine, hiValue, hiLine, invValue, invLine, stepsValue, stepsLine, spelledThen};
-use crate::Line;
-use crate::Reading;
+ghost use Rattle.sizes.specs.Sizes.{nMax, textMax};
+ghost use Rattle.joblines.specs.Says.{AnyJob, Says};
+ghost use Rattle.joblines.specs.Reading.{withNumber, withKind, withUnknowns, withLo, withHi, withInverse, withSteps};
+ghost use Rattle.joblines.specs.JobLines.{numberLine, kindOf, kindLine, oneDigit, nLine, loLine, hiLine, invLine, stepsLine, spelledThen};
+ghost use Rattle.joblines.specs.declared.Line.{Line};
+use crate::CellsLine;
+use crate::CountLine;
+use crate::KindLine;
+use crate::RowsLine;
+use crate::UnknownsLine;
 use crate::Word;
-use crate::bad;
-use crate::good;
-use crate::judge;
 use crate::places::cells_of;
 use crate::places::right_count;
 use crate::places::rows_of;
 use digits::read_number;
 use jobs::Fault;
-use jobs::Job;
 use jobs::Kind;
 use jobs::Status;
 use jobs::checks::and_then;
@@ -26,37 +26,35 @@ use jobs::checks::inverse_line;
 use jobs::checks::low_line;
 use jobs::checks::refused_unless;
 use jobs::checks::unknowns_line;
+use sizes::N;
 use sizes::NUMBER;
 use sizes::STEPS;
 use termtext::all_digits;
 use termtext::digit;
 use text::Count;
-use text::Numbers;
 use text::body;
 use text::count_of;
 use text::read_list;
 use text::same_bytes;
 
-fn number_value(s: Reading, v: Count) -> Reading
-    requires { ⌜ s .line ≤ textMax ⌝ }
-    ensures { λ r. ⌜ r ≡ numberValue s v ⌝ }
+pub fn number_line(l: &[u8], line: u64) -> CountLine
+    ensures { λ r. ⌜ Says AnyJob line (λ s. numberLine s (now (l .entry))) (r .status) Line.Kind (λ j. withNumber j (r .count)) ⌝ }
 {
+    let v = count_of(read_number(body(l, b"job=")), NUMBER);
     match v {
-        Count::Bad => bad(s, Fault::Spelling),
-        Count::Out => bad(s, Fault::Beyond),
-        Count::Is(m) => {
-            let mut job = s.job;
-            job.number = m;
-            good(s, Line::Kind, job)
-        }
+        Count::Bad => CountLine {
+            status: Status::Refused(Fault::Spelling, line),
+            count: 0,
+        },
+        Count::Out => CountLine {
+            status: Status::Refused(Fault::Beyond, line),
+            count: 0,
+        },
+        Count::Is(count) => CountLine {
+            status: Status::Done,
+            count,
+        },
     }
-}
-
-pub fn number_line(s: Reading, l: &[u8]) -> Reading
-    requires { ⌜ s .line ≤ textMax ⌝ }
-    ensures { λ r. ⌜ r ≡ numberLine s (now (l .entry)) ⌝ }
-{
-    number_value(s, count_of(read_number(body(l, b"job=")), NUMBER))
 }
 
 fn kind_of(w: &[u8]) -> Word
@@ -74,42 +72,20 @@ fn kind_of(w: &[u8]) -> Word
     Word::Bad
 }
 
-fn kind_value(s: Reading, w: Word) -> Reading
-    requires { ⌜ s .line ≤ textMax ⌝ }
-    ensures { λ r. ⌜ r ≡ kindValue s w ⌝ }
+pub fn kind_line(l: &[u8], line: u64) -> KindLine
+    ensures { λ r. ⌜ Says AnyJob line (λ s. kindLine s (now (l .entry))) (r .status) Line.Unknowns (λ j. withKind j (r .kind)) ⌝ }
 {
+    let w = kind_of(body(l, b"kind="));
     match w {
-        Word::Bad => bad(s, Fault::Spelling),
-        Word::Is(kind) => {
-            let j = s.job;
-            let lo = j.lo;
-            let hi = j.hi;
-            let inv = j.inv;
-            let eqs = j.eqs;
-            let rows = j.rows;
-            let right = j.right;
-            let job = Job {
-                number: j.number,
-                kind,
-                n: j.n,
-                lo,
-                hi,
-                inv,
-                steps: j.steps,
-                eqs,
-                rows,
-                right,
-            };
-            good(s, Line::Unknowns, job)
-        }
+        Word::Bad => KindLine {
+            status: Status::Refused(Fault::Spelling, line),
+            kind: Kind::Poly,
+        },
+        Word::Is(kind) => KindLine {
+            status: Status::Done,
+            kind,
+        },
     }
-}
-
-pub fn kind_line(s: Reading, l: &[u8]) -> Reading
-    requires { ⌜ s .line ≤ textMax ⌝ }
-    ensures { λ r. ⌜ r ≡ kindLine s (now (l .entry)) ⌝ }
-{
-    kind_value(s, kind_of(body(l, b"kind=")))
 }
 
 fn one_digit(b: &[u8]) -> bool
@@ -121,30 +97,21 @@ fn one_digit(b: &[u8]) -> bool
     false
 }
 
-fn n_digit(s: Reading, n: usize) -> Reading
-    requires { ⌜ s .line ≤ textMax ⌝ }
-    ensures { λ r. ⌜ r ≡ nDigit s n ⌝ }
+pub fn n_line(l: &[u8], line: u64) -> UnknownsLine
+    ensures { λ r. ⌜ Says AnyJob line (λ s. nLine s (now (l .entry))) (r .status) Line.Lo (λ j. withUnknowns j (r .n)) ⌝ }
 {
-    let mut job = s.job;
-    job.n = n;
-    judge(unknowns_line(s.line, n), s, Line::Lo, job)
-}
-
-fn n_value(s: Reading, b: &[u8]) -> Reading
-    requires { ⌜ s .line ≤ textMax ⌝ }
-    ensures { λ r. ⌜ r ≡ nValue s (now (b .entry)) ⌝ }
-{
+    let b = body(l, b"n=");
     if one_digit(b) {
-        return n_digit(s, digit(b[0]) as usize);
+        let n = digit(b[0]) as usize;
+        return UnknownsLine {
+            status: unknowns_line(line, n),
+            n,
+        };
     }
-    bad(s, Fault::Spelling)
-}
-
-pub fn n_line(s: Reading, l: &[u8]) -> Reading
-    requires { ⌜ s .line ≤ textMax ⌝ }
-    ensures { λ r. ⌜ r ≡ nLine s (now (l .entry)) ⌝ }
-{
-    n_value(s, body(l, b"n="))
+    UnknownsLine {
+        status: Status::Refused(Fault::Spelling, line),
+        n: 0,
+    }
 }
 
 // Fault 2 where the line is wrongly spelled, and otherwise what its values have.
@@ -154,85 +121,61 @@ pub fn spelled_then(ok: bool, line: u64, rest: Status) -> Status
     and_then(refused_unless(ok, Fault::Spelling, line), rest)
 }
 
-fn lo_value(s: Reading, a: Numbers) -> Reading
-    requires { ⌜ Limits s ⌝ }
-    ensures { λ r. ⌜ r ≡ loValue s a ⌝ }
+pub fn lo_line(l: &[u8], line: u64, n: usize) -> CellsLine
+    requires { ⌜ (n ≤ nMax) × (length (now l) ≤ textMax) ⌝ }
+    ensures { λ r. ⌜ Says (λ j. j .n ≡ n) line (λ s. loLine s (now (l .entry))) (r .status) Line.Hi (λ j. withLo j (r .cells)) ⌝ }
 {
-    let mut job = s.job;
-    let n = job.n;
+    let a = read_list(body(l, b"lo="));
     let vals = a.vals;
-    let lo = cells_of(vals, 0, n);
-    let status = spelled_then(right_count(a, n), s.line, low_line(s.line, n, lo));
-    job.lo = lo;
-    judge(status, s, Line::Hi, job)
-}
-
-pub fn lo_line(s: Reading, l: &[u8]) -> Reading
-    requires { ⌜ Limits s × (length (now l) ≤ textMax) ⌝ }
-    ensures { λ r. ⌜ r ≡ loLine s (now (l .entry)) ⌝ }
-{
-    lo_value(s, read_list(body(l, b"lo=")))
-}
-
-fn hi_value(s: Reading, a: Numbers) -> Reading
-    requires { ⌜ Limits s ⌝ }
-    ensures { λ r. ⌜ r ≡ hiValue s a ⌝ }
-{
-    let mut job = s.job;
-    let n = job.n;
-    let lo = job.lo;
-    let vals = a.vals;
-    let hi = cells_of(vals, 0, n);
-    let status = spelled_then(right_count(a, n), s.line, high_line(s.line, n, lo, hi));
-    job.hi = hi;
-    judge(status, s, Line::Inv, job)
-}
-
-pub fn hi_line(s: Reading, l: &[u8]) -> Reading
-    requires { ⌜ Limits s × (length (now l) ≤ textMax) ⌝ }
-    ensures { λ r. ⌜ r ≡ hiLine s (now (l .entry)) ⌝ }
-{
-    hi_value(s, read_list(body(l, b"hi=")))
-}
-
-fn inv_value(s: Reading, a: Numbers) -> Reading
-    requires { ⌜ Limits s ⌝ }
-    ensures { λ r. ⌜ r ≡ invValue s a ⌝ }
-{
-    let mut job = s.job;
-    let n = job.n;
-    let vals = a.vals;
-    let inv = rows_of(vals, n);
-    let status = spelled_then(right_count(a, n * n), s.line, inverse_line(s.line, n, inv));
-    job.inv = inv;
-    judge(status, s, Line::Steps, job)
-}
-
-pub fn inv_line(s: Reading, l: &[u8]) -> Reading
-    requires { ⌜ Limits s × (length (now l) ≤ textMax) ⌝ }
-    ensures { λ r. ⌜ r ≡ invLine s (now (l .entry)) ⌝ }
-{
-    inv_value(s, read_list(body(l, b"inv=")))
-}
-
-fn steps_value(s: Reading, v: Count) -> Reading
-    requires { ⌜ s .line ≤ textMax ⌝ }
-    ensures { λ r. ⌜ r ≡ stepsValue s v ⌝ }
-{
-    match v {
-        Count::Bad => bad(s, Fault::Spelling),
-        Count::Out => bad(s, Fault::Steps),
-        Count::Is(m) => {
-            let mut job = s.job;
-            job.steps = m;
-            good(s, Line::System(0), job)
-        }
+    let cells = cells_of(vals, 0, n);
+    CellsLine {
+        status: spelled_then(right_count(a, n), line, low_line(line, n, cells)),
+        cells,
     }
 }
 
-pub fn steps_line(s: Reading, l: &[u8]) -> Reading
-    requires { ⌜ s .line ≤ textMax ⌝ }
-    ensures { λ r. ⌜ r ≡ stepsLine s (now (l .entry)) ⌝ }
+pub fn hi_line(l: &[u8], line: u64, n: usize, lo: [i64; N]) -> CellsLine
+    requires { ⌜ (n ≤ nMax) × (length (now l) ≤ textMax) ⌝ }
+    ensures { λ r. ⌜ Says (λ j. (j .n ≡ n) × (j .lo ≡ lo)) line (λ s. hiLine s (now (l .entry))) (r .status) Line.Inv (λ j. withHi j (r .cells)) ⌝ }
 {
-    steps_value(s, count_of(read_number(body(l, b"steps=")), STEPS))
+    let a = read_list(body(l, b"hi="));
+    let vals = a.vals;
+    let cells = cells_of(vals, 0, n);
+    CellsLine {
+        status: spelled_then(right_count(a, n), line, high_line(line, n, lo, cells)),
+        cells,
+    }
+}
+
+pub fn inv_line(l: &[u8], line: u64, n: usize) -> RowsLine
+    requires { ⌜ (n ≤ nMax) × (length (now l) ≤ textMax) ⌝ }
+    ensures { λ r. ⌜ Says (λ j. j .n ≡ n) line (λ s. invLine s (now (l .entry))) (r .status) Line.Steps (λ j. withInverse j (r .rows)) ⌝ }
+{
+    let a = read_list(body(l, b"inv="));
+    let vals = a.vals;
+    let rows = rows_of(vals, n);
+    RowsLine {
+        status: spelled_then(right_count(a, n * n), line, inverse_line(line, n, rows)),
+        rows,
+    }
+}
+
+pub fn steps_line(l: &[u8], line: u64) -> CountLine
+    ensures { λ r. ⌜ Says AnyJob line (λ s. stepsLine s (now (l .entry))) (r .status) (Line.System 0) (λ j. withSteps j (r .count)) ⌝ }
+{
+    let v = count_of(read_number(body(l, b"steps=")), STEPS);
+    match v {
+        Count::Bad => CountLine {
+            status: Status::Refused(Fault::Spelling, line),
+            count: 0,
+        },
+        Count::Out => CountLine {
+            status: Status::Refused(Fault::Steps, line),
+            count: 0,
+        },
+        Count::Is(count) => CountLine {
+            status: Status::Done,
+            count,
+        },
+    }
 }

@@ -1,12 +1,11 @@
 // From the numbers of a line to the places of a job.
 ghost use mathlib.Core.Path.{_≡_};
 ghost use Prim.Native.Nat.{_+_, _≤_};
-ghost use lib.ListN.{set, getD};
+ghost use lib.ListN.{getD};
 ghost use lib.IntN.{pos};
 ghost use Rattle.sizes.specs.Sizes.{nMax};
 ghost use Rattle.text.specs.Lists.{placesMax};
 ghost use Rattle.joblines.specs.Places.{rightCount, cells, zeroRow, rowsOf};
-use jobs::Equation;
 use jobs::Row;
 use sizes::N;
 use text::Numbers;
@@ -58,38 +57,4 @@ pub fn rows_of(vals: [i64; PLACES], n: usize) -> [Row; N]
         rows[i] = Row { at };
     }
     rows
-}
-
-// Each of the next three stores at place i, if there is one.
-pub fn put_equation(eqs: [Equation; N], i: usize, q: Equation) -> [Equation; N]
-    ensures { λ r. ⌜ r ≡ set eqs i q ⌝ }
-{
-    let mut new = eqs;
-    if i < N {
-        new[i] = q;
-        return new;
-    }
-    new
-}
-
-pub fn put_row(rows: [Row; N], i: usize, row: Row) -> [Row; N]
-    ensures { λ r. ⌜ r ≡ set rows i row ⌝ }
-{
-    let mut new = rows;
-    if i < N {
-        new[i] = row;
-        return new;
-    }
-    new
-}
-
-pub fn put_side(right: [i64; N], i: usize, z: i64) -> [i64; N]
-    ensures { λ r. ⌜ r ≡ set right i z ⌝ }
-{
-    let mut new = right;
-    if i < N {
-        new[i] = z;
-        return new;
-    }
-    new
 }

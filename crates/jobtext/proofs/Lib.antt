@@ -1,3 +1,4 @@
 pub mod Stays
 pub mod Settled
 pub mod Zero
+pub mod Turns

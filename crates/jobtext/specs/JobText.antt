@@ -11,6 +11,7 @@ use Rattle.joblines.specs.Reading.{badLine, noJob, startReading}
 use Rattle.joblines.specs.JobLines.{numberLine, kindLine, nLine, loLine, hiLine, invLine, stepsLine, systemOf}
 use Rattle.jobs.specs.declared.Fault.{Fault}
 use Rattle.jobs.specs.declared.Status.{Status}
+use Rattle.jobs.specs.declared.Job.{Job}
 use Rattle.joblines.specs.declared.Line.{Line}
 use Rattle.joblines.specs.declared.Reading.{Reading}
 use Rattle.jobtext.specs.declared.JobRead.{JobRead}
@@ -50,6 +51,9 @@ atEnd Line.End = true
 -- everything is zero beside a fault
 abbrev pub refusedWith : Status → JobRead
 refusedWith st = record { status = st; job = noJob }
+
+abbrev pub doneWith : Job → JobRead
+doneWith j = record { status = Status.Done; job = j }
 
 -- "Lines end in one LF, the last too"; "A missing line is named by the number it would have had"
 unfoldable pub finishedAs : Status → Reading → ℕ → JobRead

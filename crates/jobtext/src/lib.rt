@@ -1,13 +1,8 @@
 // The reader of a job text.
 ghost use mathlib.Core.Path.{_≡_};
-ghost use Prim.Native.Nat.{_≤_};
-ghost use lib.ListN.{length};
-ghost use Rattle.sizes.specs.Sizes.{textMax};
-ghost use Rattle.joblines.specs.Reading.{Limits};
-ghost use Rattle.jobtext.specs.JobText.{lineOf, readLine, atEnd, refusedWith, finished, readJob};
+ghost use Rattle.joblines.specs.Reading.{withKind};
+ghost use Rattle.jobtext.specs.JobText.{atEnd, refusedWith, doneWith, readJob};
 use joblines::Line;
-use joblines::Reading;
-use joblines::bad;
 use joblines::lines::hi_line;
 use joblines::lines::inv_line;
 use joblines::lines::kind_line;
@@ -16,48 +11,23 @@ use joblines::lines::n_line;
 use joblines::lines::number_line;
 use joblines::lines::steps_line;
 use joblines::no_job;
-use joblines::start;
-use joblines::system::system_line;
+use joblines::system::after_system;
+use joblines::system::eq_line;
+use joblines::system::row_line;
+use joblines::system::sided_line;
 use jobs::Fault;
 use jobs::Job;
+use jobs::Kind;
 use jobs::Status;
+use jobs::checks::is_bad;
+use sizes::N;
 use sizes::TEXT;
+use text::piece_end;
 
 // The answer. Beside a fault the job is all zero.
 pub struct JobRead {
     pub status: Status,
     pub job: Job,
-}
-
-// A line of the kind that comes next.
-fn line_of(s: Reading, l: &[u8]) -> Reading
-    requires { ⌜ Limits s × (length (now l) ≤ textMax) ⌝ }
-    ensures { λ r. ⌜ r ≡ lineOf (s .next) s (now (l .entry)) ⌝ }
-{
-    let next = s.next;
-    match next {
-        Line::Number => number_line(s, l),
-        Line::Kind => kind_line(s, l),
-        Line::Unknowns => n_line(s, l),
-        Line::Lo => lo_line(s, l),
-        Line::Hi => hi_line(s, l),
-        Line::Inv => inv_line(s, l),
-        Line::Steps => steps_line(s, l),
-        Line::System(i) => system_line(i, s, l),
-        Line::End => bad(s, Fault::Spelling),
-    }
-}
-
-// One line more. After a fault nothing is read.
-pub fn read_line(s: Reading, l: &[u8]) -> Reading
-    requires { ⌜ Limits s × (length (now l) ≤ textMax) ⌝ }
-    ensures { λ r. ⌜ r ≡ readLine s (now (l .entry)) ⌝ }
-{
-    let status = s.status;
-    match status {
-        Status::Done => line_of(s, l),
-        Status::Refused(_, _) => s,
-    }
 }
 
 fn at_end(next: Line) -> bool
@@ -76,6 +46,32 @@ fn at_end(next: Line) -> bool
     }
 }
 
+fn done(j: Job, kind: Kind) -> JobRead
+    ensures { λ r. ⌜ r ≡ doneWith (withKind j kind) ⌝ }
+{
+    let lo = j.lo;
+    let hi = j.hi;
+    let inv = j.inv;
+    let eqs = j.eqs;
+    let rows = j.rows;
+    let right = j.right;
+    JobRead {
+        status: Status::Done,
+        job: Job {
+            number: j.number,
+            kind,
+            n: j.n,
+            lo,
+            hi,
+            inv,
+            steps: j.steps,
+            eqs,
+            rows,
+            right,
+        },
+    }
+}
+
 fn refused(status: Status) -> JobRead
     ensures { λ r. ⌜ r ≡ refusedWith status ⌝ }
 {
@@ -85,48 +81,133 @@ fn refused(status: Status) -> JobRead
     }
 }
 
-// The end of the text, with so many bytes of an unfinished line.
-pub fn finish(s: Reading, held: usize) -> JobRead
-    ensures { λ r. ⌜ r ≡ finished s held ⌝ }
-{
-    let status = s.status;
-    let next = s.next;
-    match status {
-        Status::Refused(f, line) => refused(Status::Refused(f, line)),
-        Status::Done => {
-            if held != 0 {
-                return refused(Status::Refused(Fault::Spelling, s.line));
-            }
-            if !at_end(next) {
-                return refused(Status::Refused(Fault::Spelling, s.line));
-            }
-            let job = s.job;
-            JobRead {
-                status: Status::Done,
-                job,
-            }
-        }
-    }
-}
-
-// The whole text, in one pass.
+// The whole text, line by line: `job` is filled in this one place.
 pub fn read_job(text: &[u8]) -> JobRead
     ensures { λ r. ⌜ r ≡ readJob (now (text .entry)) ⌝ }
 {
     if TEXT < text.len() {
         return refused(Status::Refused(Fault::LongText, 0));
     }
-    let mut s = start();
+    let mut job = no_job();
+    let mut kind = Kind::Poly;
+    let mut status = Status::Done;
+    let mut next = Line::Number;
+    let mut line: u64 = 1;
     let mut a = 0;
-    let mut i = 0;
-    while i < text.len() {
-        if text[i] == b'\n' {
-            s = read_line(s, &text[a..i]);
-            i += 1;
-            a = i;
-        } else {
-            i += 1;
+    while a < text.len() {
+        if is_bad(status) {
+            return refused(status);
+        }
+        let e = piece_end(text, a, b'\n');
+        if e == text.len() {
+            return refused(Status::Refused(Fault::Spelling, line));
+        }
+        let l = &text[a..e];
+        let n = job.n;
+        match next {
+            Line::Number => {
+                let r = number_line(l, line);
+                job.number = r.count;
+                status = r.status;
+                next = Line::Kind;
+                line += 1;
+                a = e + 1;
+            }
+            Line::Kind => {
+                let r = kind_line(l, line);
+                kind = r.kind;
+                status = r.status;
+                next = Line::Unknowns;
+                line += 1;
+                a = e + 1;
+            }
+            Line::Unknowns => {
+                let r = n_line(l, line);
+                job.n = r.n;
+                status = r.status;
+                next = Line::Lo;
+                line += 1;
+                a = e + 1;
+            }
+            Line::Lo => {
+                let r = lo_line(l, line, n);
+                let lo = r.cells;
+                job.lo = lo;
+                status = r.status;
+                next = Line::Hi;
+                line += 1;
+                a = e + 1;
+            }
+            Line::Hi => {
+                let lo = job.lo;
+                let r = hi_line(l, line, n, lo);
+                let hi = r.cells;
+                job.hi = hi;
+                status = r.status;
+                next = Line::Inv;
+                line += 1;
+                a = e + 1;
+            }
+            Line::Inv => {
+                let r = inv_line(l, line, n);
+                let inv = r.rows;
+                job.inv = inv;
+                status = r.status;
+                next = Line::Steps;
+                line += 1;
+                a = e + 1;
+            }
+            Line::Steps => {
+                let r = steps_line(l, line);
+                job.steps = r.count;
+                status = r.status;
+                next = Line::System(0);
+                line += 1;
+                a = e + 1;
+            }
+            Line::System(i) => {
+                next = after_system(i, n);
+                a = e + 1;
+                match kind {
+                    Kind::Poly => {
+                        let r = eq_line(l, line, n);
+                        status = r.status;
+                        line += 1;
+                        if i < N {
+                            let q = r.equation;
+                            job.eqs[i] = q;
+                        }
+                    }
+                    Kind::Linear => {
+                        let r = sided_line(l, line, n);
+                        status = r.status;
+                        line += 1;
+                        if i < N {
+                            let row = r.row;
+                            let side = r.side;
+                            job.rows[i] = row;
+                            job.right[i] = side;
+                        }
+                    }
+                    Kind::Eigen => {
+                        let r = row_line(l, line, n);
+                        status = r.status;
+                        line += 1;
+                        if i < N {
+                            let row = r.row;
+                            job.rows[i] = row;
+                        }
+                    }
+                }
+            }
+            Line::End => return refused(Status::Refused(Fault::Spelling, line)),
         }
     }
-    finish(s, i - a)
+    if is_bad(status) {
+        return refused(status);
+    }
+    if !at_end(next) {
+        return refused(Status::Refused(Fault::Spelling, line));
+    }
+    done(job, kind)
 }

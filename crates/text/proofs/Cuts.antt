@@ -72,6 +72,13 @@ module _ {S : Type 0} (step : S → List ℕ → S) (sep : ℕ) where
       let f : a + (e - a) ≡ e = omega (arith, p .after) in
       rw f at (rw z at (held-from s st a (e - a) a (omega arith) (omega (arith, p .inside, p .after)) (λ k x y. p .none k x (omega (arith, p .after)))))
 
+  -- a piece that a separator ends
+  pub piece : (s : List ℕ) (st : S) (a e : ℕ) → PieceEnd s sep a e → e < length s
+      → feeds step sep (fresh st) (drop a s) ≡ feeds step sep (fresh (step st (take (e - a) (drop a s)))) (drop (e + 1) s)
+  piece s st a e p h =
+      let z : e + 1 - (e + 1) ≡ 0 = omega arith in
+      held s st a e p ∙ rw z at (ended s st a e (p .after) h (p .ends h))
+
 -- the last piece too, which no separator ends
 abbrev pub closed : {S : Type 0} → (S → List ℕ → S) → Cut S → S
 closed step k = step (k .st) (k .held)
@@ -87,9 +94,6 @@ module _ {S : Type 0} (step : S → List ℕ → S) (sep : ℕ) (s : List ℕ) (
   left-next acc a e h p l =
       let fed = ap (closed step) (held step sep s acc a e p) in
       record {
-        more = λ k.
-            let z : e + 1 - (e + 1) ≡ 0 = omega arith in
-            let f = ended step sep s acc a e (p .after) (omega arith) (p .ends (omega arith)) in
-            sym (ap (closed step) (rw z at f)) ∙ sym fed ∙ l .more h;
+        more = λ k. sym (ap (closed step) (piece step sep s acc a e p (omega arith))) ∙ l .more h;
         none = λ k. sym (ap (closed step) (all-fed step sep s (at-part acc s a e) e (omega arith))) ∙ sym fed ∙ l .more h;
       }

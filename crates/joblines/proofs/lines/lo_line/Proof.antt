@@ -1,11 +1,11 @@
 -- `joblines::lines::lo_line` meets its contract.
-use borrow.Author.Needs.{needs}
 use native.Mathlib.Omega.{arith}
 use mathlib.Core.Path.{ap, _∙_}
 use Rattle.text.specs.Lists.{readList}
 use Rattle.text.proofs.Keys.{body-short}
 use Rattle.joblines.specs.Words.{loKey}
 use Rattle.joblines.specs.JobLines.{loValue, loLine}
+use borrow.Author.Needs.{needs}
 use Rattle.joblines.proofs.lines.lo_line.Statement.{statement}
 use Rattle.joblines.proofs.lines.lo_line.Tie as tie
 
@@ -18,16 +18,33 @@ body-requires c κs = search needs
 read-list-requires : tie.Need-read-list-requires
 read-list-requires c κs = rw (c .body .ensures) (omega (arith, body-short loKey (c .before .before .before .args .l .now)))
 
-lo-value-requires : tie.Need-lo-value-requires
-lo-value-requires c κs = search needs
+cells-of-requires : tie.Need-cells-of-requires
+cells-of-requires c κs = search needs
+
+right-count-requires : tie.Need-right-count-requires
+right-count-requires c κs = search needs
+
+low-line-requires : tie.Need-low-line-requires
+low-line-requires c κs = search needs
+
+spelled-then-requires : tie.Need-spelled-then-requires
+spelled-then-requires c κs = search needs
 
 returns : tie.Need-returns
-unfolding loLine
+unfolding loLine loValue
 returns c =
-    let s = c .before .before .before .before .before .args .s in
-    c .lo-value .ensures ∙ ap (loValue s) (c .before .read-list .ensures ∙ ap readList (c .before .before .body .ensures))
+    let a = c .before .before .before .before .before .read-list .ensures ∙ ap readList (c .before .before .before .before .before .before .body .ensures) in
+    record { all = λ k j h. rw (h, c .spelled-then .ensures, c .before .low-line .ensures, c .before .before .right-count .ensures, c .before .before .before .cells-of .ensures, a) }
 
 pub lo-line-spec : {M : Type 1} → statement M
 lo-line-spec =
     tie.close
-    (tie.spec slice-aggregate-body body-requires read-list-requires lo-value-requires returns)
+    (tie.spec
+    slice-aggregate-body
+    body-requires
+    read-list-requires
+    cells-of-requires
+    right-count-requires
+    low-line-requires
+    spelled-then-requires
+    returns)

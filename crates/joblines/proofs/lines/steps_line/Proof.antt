@@ -1,10 +1,11 @@
 -- `joblines::lines::steps_line` meets its contract.
-use borrow.Author.Needs.{needs}
-use mathlib.Core.Path.{ap, _∙_}
+use mathlib.Core.Path.{sym, ap, _∙_}
 use Rattle.sizes.specs.Sizes.{stepsMax}
 use Rattle.digits.specs.Number.{readNumber}
 use Rattle.text.specs.Counts.{countOf}
+use Rattle.joblines.specs.Reading.{judged}
 use Rattle.joblines.specs.JobLines.{stepsValue, stepsLine}
+use borrow.Author.Needs.{needs}
 use Rattle.joblines.proofs.lines.steps_line.Statement.{statement}
 use Rattle.joblines.proofs.lines.steps_line.Tie as tie
 
@@ -20,15 +21,32 @@ read-number-requires c κs = search needs
 count-of-requires : tie.Need-count-of-requires
 count-of-requires c κs = search needs
 
-steps-value-requires : tie.Need-steps-value-requires
-steps-value-requires c κs = search needs
+enum-told : tie.Need-enum-told
+enum-told c = search needs
+
+enum-told-2 : tie.Need-enum-told-2
+enum-told-2 c = search needs
+
+enum-known-v : tie.Need-enum-known-v
+enum-known-v c = search needs
 
 returns : tie.Need-returns
-unfolding stepsLine
+unfolding stepsLine stepsValue judged
 returns c =
-    let s = c .before .before .before .before .before .before .args .s in
-    let read = c .before .before .read-number .ensures ∙ ap readNumber (c .before .before .before .body .ensures) in
-    c .steps-value .ensures ∙ ap (stepsValue s) (c .before .count-of .ensures ∙ ap (countOf stepsMax) read)
+    let v = sym (c .before .before .count-of .ensures ∙ ap (countOf stepsMax) (c .before .before .before .read-number .ensures ∙ ap readNumber (c .before .before .before .before .body .ensures))) ∙ c .enum-told .given .1 in
+    record { all = λ k j h. rw v }
+
+returns-2 : tie.Need-returns-2
+unfolding stepsLine stepsValue judged
+returns-2 c =
+    let v = sym (c .before .before .count-of .ensures ∙ ap (countOf stepsMax) (c .before .before .before .read-number .ensures ∙ ap readNumber (c .before .before .before .before .body .ensures))) ∙ c .enum-told2 .given .1 in
+    record { all = λ k j h. rw v }
+
+returns-3 : tie.Need-returns-3
+unfolding stepsLine stepsValue judged
+returns-3 c =
+    let v = sym (c .before .before .before .count-of .ensures ∙ ap (countOf stepsMax) (c .before .before .before .before .read-number .ensures ∙ ap readNumber (c .before .before .before .before .before .body .ensures))) ∙ c .before .v .given .1 in
+    record { all = λ k j h. rw v }
 
 pub steps-line-spec : {M : Type 1} → statement M
 steps-line-spec =
@@ -38,5 +56,9 @@ steps-line-spec =
     body-requires
     read-number-requires
     count-of-requires
-    steps-value-requires
-    returns)
+    enum-told
+    enum-told-2
+    enum-known-v
+    returns
+    returns-2
+    returns-3)
