@@ -24,7 +24,7 @@ use Rattle.joblines.specs.Reading.{judged, withKind, withEquation, withRow, wit
 use Rattle.joblines.specs.Says.{reading}
 use Rattle.jobtext.specs.declared.JobRead.{JobRead}
 use Rattle.jobtext.specs.JobText.{lineOf, unlessBad, readLine, refusedWith, finishedAs, finished, finishedCut}
-use Rattle.jobtext.proofs.Stays.{Stays, line-stays}
+use Rattle.jobtext.proofs.Stays.{line-stays}
 
 abbrev pub whole : List ℕ → JobRead
 whole t = finishedCut (feeds readLine lineFeed (fresh startReading) t)

@@ -104,84 +104,70 @@ pub fn read_job(text: &[u8]) -> JobRead
         }
         let l = &text[a..e];
         let n = job.n;
+        let at = line;
+        line += 1;
+        a = e + 1;
         match next {
             Line::Number => {
-                let r = number_line(l, line);
+                let r = number_line(l, at);
                 job.number = r.count;
                 status = r.status;
                 next = Line::Kind;
-                line += 1;
-                a = e + 1;
             }
             Line::Kind => {
-                let r = kind_line(l, line);
+                let r = kind_line(l, at);
                 kind = r.kind;
                 status = r.status;
                 next = Line::Unknowns;
-                line += 1;
-                a = e + 1;
             }
             Line::Unknowns => {
-                let r = n_line(l, line);
+                let r = n_line(l, at);
                 job.n = r.n;
                 status = r.status;
                 next = Line::Lo;
-                line += 1;
-                a = e + 1;
             }
             Line::Lo => {
-                let r = lo_line(l, line, n);
+                let r = lo_line(l, at, n);
                 let lo = r.cells;
                 job.lo = lo;
                 status = r.status;
                 next = Line::Hi;
-                line += 1;
-                a = e + 1;
             }
             Line::Hi => {
                 let lo = job.lo;
-                let r = hi_line(l, line, n, lo);
+                let r = hi_line(l, at, n, lo);
                 let hi = r.cells;
                 job.hi = hi;
                 status = r.status;
                 next = Line::Inv;
-                line += 1;
-                a = e + 1;
             }
             Line::Inv => {
-                let r = inv_line(l, line, n);
+                let r = inv_line(l, at, n);
                 let inv = r.rows;
                 job.inv = inv;
                 status = r.status;
                 next = Line::Steps;
-                line += 1;
-                a = e + 1;
             }
             Line::Steps => {
-                let r = steps_line(l, line);
+                let r = steps_line(l, at);
                 job.steps = r.count;
                 status = r.status;
                 next = Line::System(0);
-                line += 1;
-                a = e + 1;
             }
             Line::System(i) => {
                 next = after_system(i, n);
-                a = e + 1;
                 match kind {
                     Kind::Poly => {
-                        let r = eq_line(l, line, n);
+                        let r = eq_line(l, at, n);
                         status = r.status;
-                        line += 1;
                         if i < N {
                             let q = r.equation;
                             job.eqs[i] = q;
                         }
                     }
                     Kind::Linear => {
-                        let r = sided_line(l, line, n);
+                        let r = sided_line(l, at, n);
                         status = r.status;
-                        line += 1;
                         if i < N {
                             let row = r.row;
                             let side = r.side;
@@ -190,9 +176,8 @@ pub fn read_job(text: &[u8]) -> JobRead
                         }
                     }
                     Kind::Eigen => {
-                        let r = row_line(l, line, n);
+                        let r = row_line(l, at, n);
                         status = r.status;
-                        line += 1;
                         if i < N {
                             let row = r.row;
                             job.rows[i] = row;
@@ -200,7 +185,7 @@ pub fn read_job(text: &[u8]) -> JobRead
                     }
                 }
             }
-            Line::End => return refused(Status::Refused(Fault::Spelling, line)),
+            Line::End => return refused(Status::Refused(Fault::Spelling, at)),
         }
     }
     if is_bad(status) {

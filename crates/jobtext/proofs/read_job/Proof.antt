@@ -1,7 +1,7 @@
 -- `jobtext::read_job` meets its contract.
 use borrow.Author.Needs.{needs}
 use borrow.Author.Tests.{lt-ltb, le-ltb, ne-eqb, not-true, not-false}
-use Prim.Native.Nat.{ℕ, _+_, _-_, _≤_}
+use Prim.Native.Nat.{ℕ, _-_}
 use native.Mathlib.Omega.{arith}
 use mathlib.Core.Path.{_≡_, refl, sym, ap, _∙_}
 use mathlib.Core.List.{List}
@@ -78,7 +78,8 @@ refused-requires-2 c κs = search needs
 returns-2 : tie.Need-returns-2 Inv-loop μ-loop
 unfolding readJob
 returns-2 c =
-    rw (le-ltb _ _ (c .before .before .before .before .before .before .if1 .left)) (c .refused2 .ensures ∙ c .before .before .before .before .loop .inv .stopped (sym (c .before .before .is-bad .ensures) ∙ c .before .if2 .taken))
+    rw (le-ltb _ _ (c .before .before .before .before .before .before .if1 .left))
+    (c .refused2 .ensures ∙ c .before .before .before .before .loop .inv .stopped (sym (c .before .before .is-bad .ensures) ∙ c .before .if2 .taken))
 
 piece-end-requires : tie.Need-piece-end-requires Inv-loop μ-loop
 piece-end-requires c κs = search needs
@@ -89,14 +90,16 @@ refused-requires-3 c κs = search needs
 returns-3 : tie.Need-returns-3 Inv-loop μ-loop
 unfolding readJob finishedCut finished
 returns-3 c =
-    let t = c .before .before .before .before .before .before .before .before .before .before .args .text .now in
-    let l = c .before .before .before .before .before .before .loop in
-    let e = c .before .before .piece-end in
-    let ok = sym (c .before .before .before .before .is-bad .ensures) ∙ c .before .before .before .if2 .left in
+    let m = c .before in
+    let t = m .before .before .before .before .before .before .before .before .before .args .text .now in
+    let l = m .before .before .before .before .before .loop in
+    let e = m .before .piece-end in
+    let ok = sym (m .before .before .before .is-bad .ensures) ∙ m .before .before .if2 .left in
     let s : Reading = reading (l .line) (l .next) (withKind (l .job) (l .kind)) in
     let long : length (take (e .result - l .a) (drop (l .a) t)) ≡ e .result - l .a =
     length-take-le (e .result - l .a) (drop (l .a) t) (omega (arith, e .ensures .inside, length-drop (l .a) t)) in
-    let some = ne-eqb (length (take (e .result - l .a) (drop (l .a) t))) 0 (λ z. omega (arith, long, z, c .before .if3 .taken, c .before .before .before .before .before .loop-test .taken)) in
+    let some = ne-eqb (length (take (e .result - l .a) (drop (l .a) t))) 0
+    (λ z. omega (arith, long, z, c .before .if3 .taken, c .before .before .before .before .before .loop-test .taken)) in
     rw (le-ltb _ _ (c .before .before .before .before .before .before .before .before .if1 .left))
     (c .refused3 .ensures
     ∙ sym (held-bad s _ some)
@@ -113,17 +116,17 @@ part-l-start c = search needs
 part-l-end : tie.Need-part-l-end Inv-loop μ-loop
 part-l-end c = search needs
 
-enum-told : tie.Need-enum-told Inv-loop μ-loop
-enum-told c = search needs
-
-number-line-requires : tie.Need-number-line-requires Inv-loop μ-loop
-number-line-requires c κs = search needs
-
 add-line : tie.Need-add-line Inv-loop μ-loop
 add-line c = search needs
 
 add-a : tie.Need-add-a Inv-loop μ-loop
 add-a c = search needs
+
+enum-told : tie.Need-enum-told Inv-loop μ-loop
+enum-told c = search needs
+
+number-line-requires : tie.Need-number-line-requires Inv-loop μ-loop
+number-line-requires c κs = search needs
 
 loop-less : tie.Need-loop-less Inv-loop μ-loop
 loop-less c = search needs
@@ -131,14 +134,16 @@ loop-less c = search needs
 loop-again : tie.Need-loop-again Inv-loop μ-loop
 unfolding lineOf
 loop-again c =
-    let t = c .before .before .before .before .before .before .before .before .before .before .before .before .before .args .text .now in
-    let l = c .before .before .before .before .before .before .before .before .before .loop in
-    let e = c .before .before .before .before .before .piece-end in
-    let ok = sym (c .before .before .before .before .before .before .before .is-bad .ensures) ∙ c .before .before .before .before .before .before .if2 .left in
+    let m = c .before .before .before .before in
+    let t = m .before .before .before .before .before .before .before .before .before .args .text .now in
+    let l = m .before .before .before .before .before .loop in
+    let e = m .before .piece-end in
+    let ok = sym (m .before .before .before .is-bad .ensures) ∙ m .before .before .if2 .left in
     let f : List ℕ = take (e .result - l .a) (drop (l .a) t) in
     let s : Reading = reading (l .line) (l .next) (withKind (l .job) (l .kind)) in
-    turn t (l .job) (l .kind) (l .next) (l .line) (l .a) (e .result) (e .ensures) (omega (arith, e .ensures .inside, c .before .before .before .before .if3 .left)) (l .inv .room) (l .inv .few ok)
-    (l .inv .going ok) _ _ _ _ (record { eqs = l .inv .long .eqs; rows = l .inv .long .rows; right = l .inv .long .right })
+    turn t (l .job) (l .kind) (l .next) (l .line) (l .a) (e .result) (e .ensures) (omega (arith, e .ensures .inside, m .if3 .left))
+    (l .inv .room) (l .inv .few ok) (l .inv .going ok) _ _ _ _
+    (record { eqs = l .inv .long .eqs; rows = l .inv .long .rows; right = l .inv .long .right })
     (ap (λ (k : Line). lineOf k s f) (c .before .enum-told .given .1) ∙ c .number-line .ensures .all (l .next) (s .job) tt)
 
 enum-told-2 : tie.Need-enum-told-2 Inv-loop μ-loop
@@ -147,26 +152,22 @@ enum-told-2 c = search needs
 kind-line-requires : tie.Need-kind-line-requires Inv-loop μ-loop
 kind-line-requires c κs = search needs
 
-add-line-2 : tie.Need-add-line-2 Inv-loop μ-loop
-add-line-2 c = search needs
-
-add-a-2 : tie.Need-add-a-2 Inv-loop μ-loop
-add-a-2 c = search needs
-
 loop-less-2 : tie.Need-loop-less-2 Inv-loop μ-loop
 loop-less-2 c = search needs
 
 loop-again-2 : tie.Need-loop-again-2 Inv-loop μ-loop
 unfolding lineOf
 loop-again-2 c =
-    let t = c .before .before .before .before .before .before .before .before .before .before .before .before .before .args .text .now in
-    let l = c .before .before .before .before .before .before .before .before .before .loop in
-    let e = c .before .before .before .before .before .piece-end in
-    let ok = sym (c .before .before .before .before .before .before .before .is-bad .ensures) ∙ c .before .before .before .before .before .before .if2 .left in
+    let m = c .before .before .before .before in
+    let t = m .before .before .before .before .before .before .before .before .before .args .text .now in
+    let l = m .before .before .before .before .before .loop in
+    let e = m .before .piece-end in
+    let ok = sym (m .before .before .before .is-bad .ensures) ∙ m .before .before .if2 .left in
     let f : List ℕ = take (e .result - l .a) (drop (l .a) t) in
     let s : Reading = reading (l .line) (l .next) (withKind (l .job) (l .kind)) in
-    turn t (l .job) (l .kind) (l .next) (l .line) (l .a) (e .result) (e .ensures) (omega (arith, e .ensures .inside, c .before .before .before .before .if3 .left)) (l .inv .room) (l .inv .few ok)
-    (l .inv .going ok) _ _ _ _ (record { eqs = l .inv .long .eqs; rows = l .inv .long .rows; right = l .inv .long .right })
+    turn t (l .job) (l .kind) (l .next) (l .line) (l .a) (e .result) (e .ensures) (omega (arith, e .ensures .inside, m .if3 .left))
+    (l .inv .room) (l .inv .few ok) (l .inv .going ok) _ _ _ _
+    (record { eqs = l .inv .long .eqs; rows = l .inv .long .rows; right = l .inv .long .right })
     (ap (λ (k : Line). lineOf k s f) (c .before .enum-told2 .given .1) ∙ c .kind-line .ensures .all (l .next) (s .job) tt)
 
 enum-told-3 : tie.Need-enum-told-3 Inv-loop μ-loop
@@ -175,26 +176,22 @@ enum-told-3 c = search needs
 n-line-requires : tie.Need-n-line-requires Inv-loop μ-loop
 n-line-requires c κs = search needs
 
-add-line-3 : tie.Need-add-line-3 Inv-loop μ-loop
-add-line-3 c = search needs
-
-add-a-3 : tie.Need-add-a-3 Inv-loop μ-loop
-add-a-3 c = search needs
-
 loop-less-3 : tie.Need-loop-less-3 Inv-loop μ-loop
 loop-less-3 c = search needs
 
 loop-again-3 : tie.Need-loop-again-3 Inv-loop μ-loop
 unfolding lineOf
 loop-again-3 c =
-    let t = c .before .before .before .before .before .before .before .before .before .before .before .before .before .args .text .now in
-    let l = c .before .before .before .before .before .before .before .before .before .loop in
-    let e = c .before .before .before .before .before .piece-end in
-    let ok = sym (c .before .before .before .before .before .before .before .is-bad .ensures) ∙ c .before .before .before .before .before .before .if2 .left in
+    let m = c .before .before .before .before in
+    let t = m .before .before .before .before .before .before .before .before .before .args .text .now in
+    let l = m .before .before .before .before .before .loop in
+    let e = m .before .piece-end in
+    let ok = sym (m .before .before .before .is-bad .ensures) ∙ m .before .before .if2 .left in
     let f : List ℕ = take (e .result - l .a) (drop (l .a) t) in
     let s : Reading = reading (l .line) (l .next) (withKind (l .job) (l .kind)) in
-    turn t (l .job) (l .kind) (l .next) (l .line) (l .a) (e .result) (e .ensures) (omega (arith, e .ensures .inside, c .before .before .before .before .if3 .left)) (l .inv .room) (l .inv .few ok)
-    (l .inv .going ok) _ _ _ _ (record { eqs = l .inv .long .eqs; rows = l .inv .long .rows; right = l .inv .long .right })
+    turn t (l .job) (l .kind) (l .next) (l .line) (l .a) (e .result) (e .ensures) (omega (arith, e .ensures .inside, m .if3 .left))
+    (l .inv .room) (l .inv .few ok) (l .inv .going ok) _ _ _ _
+    (record { eqs = l .inv .long .eqs; rows = l .inv .long .rows; right = l .inv .long .right })
     (ap (λ (k : Line). lineOf k s f) (c .before .enum-told3 .given .1) ∙ c .n-line .ensures .all (l .next) (s .job) tt)
 
 enum-told-4 : tie.Need-enum-told-4 Inv-loop μ-loop
@@ -202,16 +199,11 @@ enum-told-4 c = search needs
 
 lo-line-requires : tie.Need-lo-line-requires Inv-loop μ-loop
 lo-line-requires c κs =
-    let t = c .before .before .before .before .before .before .before .before .before .before .before .before .args .text .now in
-    let l = c .before .before .before .before .before .before .before .before .loop in
-    let e = c .before .before .before .before .piece-end in
-    (l .inv .few (sym (c .before .before .before .before .before .before .is-bad .ensures) ∙ c .before .before .before .before .before .if2 .left), omega (arith, length-take (e .result - l .a) (drop (l .a) t)))
-
-add-line-4 : tie.Need-add-line-4 Inv-loop μ-loop
-add-line-4 c = search needs
-
-add-a-4 : tie.Need-add-a-4 Inv-loop μ-loop
-add-a-4 c = search needs
+    let m = c .before .before .before in
+    let l = m .before .before .before .before .before .loop in
+    let e = m .before .piece-end in
+    let t = m .before .before .before .before .before .before .before .before .before .args .text .now in
+    (l .inv .few (sym (m .before .before .before .is-bad .ensures) ∙ m .before .before .if2 .left), omega (arith, length-take (e .result - l .a) (drop (l .a) t)))
 
 loop-less-4 : tie.Need-loop-less-4 Inv-loop μ-loop
 loop-less-4 c = search needs
@@ -219,14 +211,16 @@ loop-less-4 c = search needs
 loop-again-4 : tie.Need-loop-again-4 Inv-loop μ-loop
 unfolding lineOf
 loop-again-4 c =
-    let t = c .before .before .before .before .before .before .before .before .before .before .before .before .before .before .args .text .now in
-    let l = c .before .before .before .before .before .before .before .before .before .before .loop in
-    let e = c .before .before .before .before .before .before .piece-end in
-    let ok = sym (c .before .before .before .before .before .before .before .before .is-bad .ensures) ∙ c .before .before .before .before .before .before .before .if2 .left in
+    let m = c .before .before .before .before .before in
+    let t = m .before .before .before .before .before .before .before .before .before .args .text .now in
+    let l = m .before .before .before .before .before .loop in
+    let e = m .before .piece-end in
+    let ok = sym (m .before .before .before .is-bad .ensures) ∙ m .before .before .if2 .left in
     let f : List ℕ = take (e .result - l .a) (drop (l .a) t) in
     let s : Reading = reading (l .line) (l .next) (withKind (l .job) (l .kind)) in
-    turn t (l .job) (l .kind) (l .next) (l .line) (l .a) (e .result) (e .ensures) (omega (arith, e .ensures .inside, c .before .before .before .before .before .if3 .left)) (l .inv .room) (l .inv .few ok)
-    (l .inv .going ok) _ _ _ _ (record { eqs = l .inv .long .eqs; rows = l .inv .long .rows; right = l .inv .long .right })
+    turn t (l .job) (l .kind) (l .next) (l .line) (l .a) (e .result) (e .ensures) (omega (arith, e .ensures .inside, m .if3 .left))
+    (l .inv .room) (l .inv .few ok) (l .inv .going ok) _ _ _ _
+    (record { eqs = l .inv .long .eqs; rows = l .inv .long .rows; right = l .inv .long .right })
     (ap (λ (k : Line). lineOf k s f) (c .before .before .enum-told4 .given .1) ∙ c .before .lo-line .ensures .all (l .next) (s .job) refl)
 
 enum-told-5 : tie.Need-enum-told-5 Inv-loop μ-loop
@@ -234,16 +228,11 @@ enum-told-5 c = search needs
 
 hi-line-requires : tie.Need-hi-line-requires Inv-loop μ-loop
 hi-line-requires c κs =
-    let t = c .before .before .before .before .before .before .before .before .before .before .before .before .before .args .text .now in
-    let l = c .before .before .before .before .before .before .before .before .before .loop in
-    let e = c .before .before .before .before .before .piece-end in
-    (l .inv .few (sym (c .before .before .before .before .before .before .before .is-bad .ensures) ∙ c .before .before .before .before .before .before .if2 .left), omega (arith, length-take (e .result - l .a) (drop (l .a) t)))
-
-add-line-5 : tie.Need-add-line-5 Inv-loop μ-loop
-add-line-5 c = search needs
-
-add-a-5 : tie.Need-add-a-5 Inv-loop μ-loop
-add-a-5 c = search needs
+    let m = c .before .before .before .before in
+    let l = m .before .before .before .before .before .loop in
+    let e = m .before .piece-end in
+    let t = m .before .before .before .before .before .before .before .before .before .args .text .now in
+    (l .inv .few (sym (m .before .before .before .is-bad .ensures) ∙ m .before .before .if2 .left), omega (arith, length-take (e .result - l .a) (drop (l .a) t)))
 
 loop-less-5 : tie.Need-loop-less-5 Inv-loop μ-loop
 loop-less-5 c = search needs
@@ -251,14 +240,16 @@ loop-less-5 c = search needs
 loop-again-5 : tie.Need-loop-again-5 Inv-loop μ-loop
 unfolding lineOf
 loop-again-5 c =
-    let t = c .before .before .before .before .before .before .before .before .before .before .before .before .before .before .before .args .text .now in
-    let l = c .before .before .before .before .before .before .before .before .before .before .before .loop in
-    let e = c .before .before .before .before .before .before .before .piece-end in
-    let ok = sym (c .before .before .before .before .before .before .before .before .before .is-bad .ensures) ∙ c .before .before .before .before .before .before .before .before .if2 .left in
+    let m = c .before .before .before .before .before .before in
+    let t = m .before .before .before .before .before .before .before .before .before .args .text .now in
+    let l = m .before .before .before .before .before .loop in
+    let e = m .before .piece-end in
+    let ok = sym (m .before .before .before .is-bad .ensures) ∙ m .before .before .if2 .left in
     let f : List ℕ = take (e .result - l .a) (drop (l .a) t) in
     let s : Reading = reading (l .line) (l .next) (withKind (l .job) (l .kind)) in
-    turn t (l .job) (l .kind) (l .next) (l .line) (l .a) (e .result) (e .ensures) (omega (arith, e .ensures .inside, c .before .before .before .before .before .before .if3 .left)) (l .inv .room) (l .inv .few ok)
-    (l .inv .going ok) _ _ _ _ (record { eqs = l .inv .long .eqs; rows = l .inv .long .rows; right = l .inv .long .right })
+    turn t (l .job) (l .kind) (l .next) (l .line) (l .a) (e .result) (e .ensures) (omega (arith, e .ensures .inside, m .if3 .left))
+    (l .inv .room) (l .inv .few ok) (l .inv .going ok) _ _ _ _
+    (record { eqs = l .inv .long .eqs; rows = l .inv .long .rows; right = l .inv .long .right })
     (ap (λ (k : Line). lineOf k s f) (c .before .before .before .enum-told5 .given .1) ∙ c .before .hi-line .ensures .all (l .next) (s .job) (refl, refl))
 
 enum-told-6 : tie.Need-enum-told-6 Inv-loop μ-loop
@@ -266,16 +257,11 @@ enum-told-6 c = search needs
 
 inv-line-requires : tie.Need-inv-line-requires Inv-loop μ-loop
 inv-line-requires c κs =
-    let t = c .before .before .before .before .before .before .before .before .before .before .before .before .args .text .now in
-    let l = c .before .before .before .before .before .before .before .before .loop in
-    let e = c .before .before .before .before .piece-end in
-    (l .inv .few (sym (c .before .before .before .before .before .before .is-bad .ensures) ∙ c .before .before .before .before .before .if2 .left), omega (arith, length-take (e .result - l .a) (drop (l .a) t)))
-
-add-line-6 : tie.Need-add-line-6 Inv-loop μ-loop
-add-line-6 c = search needs
-
-add-a-6 : tie.Need-add-a-6 Inv-loop μ-loop
-add-a-6 c = search needs
+    let m = c .before .before .before in
+    let l = m .before .before .before .before .before .loop in
+    let e = m .before .piece-end in
+    let t = m .before .before .before .before .before .before .before .before .before .args .text .now in
+    (l .inv .few (sym (m .before .before .before .is-bad .ensures) ∙ m .before .before .if2 .left), omega (arith, length-take (e .result - l .a) (drop (l .a) t)))
 
 loop-less-6 : tie.Need-loop-less-6 Inv-loop μ-loop
 loop-less-6 c = search needs
@@ -283,14 +269,16 @@ loop-less-6 c = search needs
 loop-again-6 : tie.Need-loop-again-6 Inv-loop μ-loop
 unfolding lineOf
 loop-again-6 c =
-    let t = c .before .before .before .before .before .before .before .before .before .before .before .before .before .before .args .text .now in
-    let l = c .before .before .before .before .before .before .before .before .before .before .loop in
-    let e = c .before .before .before .before .before .before .piece-end in
-    let ok = sym (c .before .before .before .before .before .before .before .before .is-bad .ensures) ∙ c .before .before .before .before .before .before .before .if2 .left in
+    let m = c .before .before .before .before .before in
+    let t = m .before .before .before .before .before .before .before .before .before .args .text .now in
+    let l = m .before .before .before .before .before .loop in
+    let e = m .before .piece-end in
+    let ok = sym (m .before .before .before .is-bad .ensures) ∙ m .before .before .if2 .left in
     let f : List ℕ = take (e .result - l .a) (drop (l .a) t) in
     let s : Reading = reading (l .line) (l .next) (withKind (l .job) (l .kind)) in
-    turn t (l .job) (l .kind) (l .next) (l .line) (l .a) (e .result) (e .ensures) (omega (arith, e .ensures .inside, c .before .before .before .before .before .if3 .left)) (l .inv .room) (l .inv .few ok)
-    (l .inv .going ok) _ _ _ _ (record { eqs = l .inv .long .eqs; rows = l .inv .long .rows; right = l .inv .long .right })
+    turn t (l .job) (l .kind) (l .next) (l .line) (l .a) (e .result) (e .ensures) (omega (arith, e .ensures .inside, m .if3 .left))
+    (l .inv .room) (l .inv .few ok) (l .inv .going ok) _ _ _ _
+    (record { eqs = l .inv .long .eqs; rows = l .inv .long .rows; right = l .inv .long .right })
     (ap (λ (k : Line). lineOf k s f) (c .before .before .enum-told6 .given .1) ∙ c .before .inv-line .ensures .all (l .next) (s .job) refl)
 
 enum-told-7 : tie.Need-enum-told-7 Inv-loop μ-loop
@@ -299,26 +287,22 @@ enum-told-7 c = search needs
 steps-line-requires : tie.Need-steps-line-requires Inv-loop μ-loop
 steps-line-requires c κs = search needs
 
-add-line-7 : tie.Need-add-line-7 Inv-loop μ-loop
-add-line-7 c = search needs
-
-add-a-7 : tie.Need-add-a-7 Inv-loop μ-loop
-add-a-7 c = search needs
-
 loop-less-7 : tie.Need-loop-less-7 Inv-loop μ-loop
 loop-less-7 c = search needs
 
 loop-again-7 : tie.Need-loop-again-7 Inv-loop μ-loop
 unfolding lineOf
 loop-again-7 c =
-    let t = c .before .before .before .before .before .before .before .before .before .before .before .before .before .args .text .now in
-    let l = c .before .before .before .before .before .before .before .before .before .loop in
-    let e = c .before .before .before .before .before .piece-end in
-    let ok = sym (c .before .before .before .before .before .before .before .is-bad .ensures) ∙ c .before .before .before .before .before .before .if2 .left in
+    let m = c .before .before .before .before in
+    let t = m .before .before .before .before .before .before .before .before .before .args .text .now in
+    let l = m .before .before .before .before .before .loop in
+    let e = m .before .piece-end in
+    let ok = sym (m .before .before .before .is-bad .ensures) ∙ m .before .before .if2 .left in
     let f : List ℕ = take (e .result - l .a) (drop (l .a) t) in
     let s : Reading = reading (l .line) (l .next) (withKind (l .job) (l .kind)) in
-    turn t (l .job) (l .kind) (l .next) (l .line) (l .a) (e .result) (e .ensures) (omega (arith, e .ensures .inside, c .before .before .before .before .if3 .left)) (l .inv .room) (l .inv .few ok)
-    (l .inv .going ok) _ _ _ _ (record { eqs = l .inv .long .eqs; rows = l .inv .long .rows; right = l .inv .long .right })
+    turn t (l .job) (l .kind) (l .next) (l .line) (l .a) (e .result) (e .ensures) (omega (arith, e .ensures .inside, m .if3 .left))
+    (l .inv .room) (l .inv .few ok) (l .inv .going ok) _ _ _ _
+    (record { eqs = l .inv .long .eqs; rows = l .inv .long .rows; right = l .inv .long .right })
     (ap (λ (k : Line). lineOf k s f) (c .before .enum-told7 .given .1) ∙ c .steps-line .ensures .all (l .next) (s .job) tt)
 
 enum-known-next : tie.Need-enum-known-next Inv-loop μ-loop
@@ -327,21 +311,16 @@ enum-known-next c = search needs
 after-system-requires : tie.Need-after-system-requires Inv-loop μ-loop
 after-system-requires c κs = search needs
 
-add-a-8 : tie.Need-add-a-8 Inv-loop μ-loop
-add-a-8 c = search needs
-
 enum-told-8 : tie.Need-enum-told-8 Inv-loop μ-loop
 enum-told-8 c = search needs
 
 eq-line-requires : tie.Need-eq-line-requires Inv-loop μ-loop
 eq-line-requires c κs =
-    let t = c .before .before .before .before .before .before .before .before .before .before .before .before .before .before .before .before .args .text .now in
-    let l = c .before .before .before .before .before .before .before .before .before .before .before .before .loop in
-    let e = c .before .before .before .before .before .before .before .before .piece-end in
-    (l .inv .few (sym (c .before .before .before .before .before .before .before .before .before .before .is-bad .ensures) ∙ c .before .before .before .before .before .before .before .before .before .if2 .left), omega (arith, length-take (e .result - l .a) (drop (l .a) t)))
-
-add-line-8 : tie.Need-add-line-8 Inv-loop μ-loop
-add-line-8 c = search needs
+    let m = c .before .before .before .before .before .before .before in
+    let l = m .before .before .before .before .before .loop in
+    let e = m .before .piece-end in
+    let t = m .before .before .before .before .before .before .before .before .before .args .text .now in
+    (l .inv .few (sym (m .before .before .before .is-bad .ensures) ∙ m .before .before .if2 .left), omega (arith, length-take (e .result - l .a) (drop (l .a) t)))
 
 mul-q : tie.Need-mul-q Inv-loop μ-loop
 mul-q c = search needs
@@ -355,20 +334,24 @@ loop-less-8 c = search needs
 loop-again-8 : tie.Need-loop-again-8 Inv-loop μ-loop
 unfolding lineOf
 loop-again-8 c =
-    let t = c .before .before .before .before .before .before .before .before .before .before .before .before .before .before .before .before .before .before .before .args .text .now in
-    let l = c .before .before .before .before .before .before .before .before .before .before .before .before .before .before .before .loop in
-    let e = c .before .before .before .before .before .before .before .before .before .before .before .piece-end in
-    let ok = sym (c .before .before .before .before .before .before .before .before .before .before .before .before .before .is-bad .ensures) ∙ c .before .before .before .before .before .before .before .before .before .before .before .before .if2 .left in
+    let m = c .before .before .before .before .before .before .before .before .before .before in
+    let t = m .before .before .before .before .before .before .before .before .before .args .text .now in
+    let l = m .before .before .before .before .before .loop in
+    let e = m .before .piece-end in
+    let ok = sym (m .before .before .before .is-bad .ensures) ∙ m .before .before .if2 .left in
     let f : List ℕ = take (e .result - l .a) (drop (l .a) t) in
     let s : Reading = reading (l .line) (l .next) (withKind (l .job) (l .kind)) in
+    let r = c .before .before .eq-line in
+    let next = c .before .before .before .before .before .after-system in
     let i : ℕ = c .before .before .before .before .before .before .before .next .given .0 .0 in
-    let j : Job = withEquation (s .job) i (c .before .before .eq-line .result .equation) in
-    turn t (l .job) (l .kind) (l .next) (l .line) (l .a) (e .result) (e .ensures) (omega (arith, e .ensures .inside, c .before .before .before .before .before .before .before .before .before .before .if3 .left)) (l .inv .room) (l .inv .few ok)
-    (l .inv .going ok) _ _ _ _ (record { eqs = length-set (l .job .eqs) _ _ ∙ l .inv .long .eqs; rows = l .inv .long .rows; right = l .inv .long .right })
+    let j : Job = withEquation (s .job) i (r .result .equation) in
+    turn t (l .job) (l .kind) (l .next) (l .line) (l .a) (e .result) (e .ensures) (omega (arith, e .ensures .inside, m .if3 .left))
+    (l .inv .room) (l .inv .few ok) (l .inv .going ok) _ _ _ _
+    (record { eqs = length-set (l .job .eqs) _ _ ∙ l .inv .long .eqs; rows = l .inv .long .rows; right = l .inv .long .right })
     (ap (λ (k : Line). lineOf k s f) (c .before .before .before .before .before .before .before .next .given .1)
     ∙ ap (λ (q : Kind). systemOf q i s f) (c .before .before .before .enum-told8 .given .1)
-    ∙ c .before .before .eq-line .ensures .all (l .next) (s .job) i refl
-    ∙ ap (λ (x : Line). judged (c .before .before .eq-line .result .status) s x j) (sym (c .before .before .before .before .before .after-system .ensures)))
+    ∙ r .ensures .all (l .next) (s .job) i refl
+    ∙ ap (λ (x : Line). judged (r .result .status) s x j) (sym (next .ensures)))
 
 loop-less-9 : tie.Need-loop-less-9 Inv-loop μ-loop
 loop-less-9 c = search needs
@@ -376,34 +359,37 @@ loop-less-9 c = search needs
 loop-again-9 : tie.Need-loop-again-9 Inv-loop μ-loop
 unfolding lineOf
 loop-again-9 c =
-    let t = c .before .before .before .before .before .before .before .before .before .before .before .before .before .before .before .before .before .before .args .text .now in
-    let l = c .before .before .before .before .before .before .before .before .before .before .before .before .before .before .loop in
-    let e = c .before .before .before .before .before .before .before .before .before .before .piece-end in
-    let ok = sym (c .before .before .before .before .before .before .before .before .before .before .before .before .is-bad .ensures) ∙ c .before .before .before .before .before .before .before .before .before .before .before .if2 .left in
+    let m = c .before .before .before .before .before .before .before .before .before in
+    let t = m .before .before .before .before .before .before .before .before .before .args .text .now in
+    let l = m .before .before .before .before .before .loop in
+    let e = m .before .piece-end in
+    let ok = sym (m .before .before .before .is-bad .ensures) ∙ m .before .before .if2 .left in
     let f : List ℕ = take (e .result - l .a) (drop (l .a) t) in
     let s : Reading = reading (l .line) (l .next) (withKind (l .job) (l .kind)) in
+    let r = c .before .eq-line in
+    let next = c .before .before .before .before .after-system in
     let i : ℕ = c .before .before .before .before .before .before .next .given .0 .0 in
-    let j : Job = withEquation (s .job) i (c .before .eq-line .result .equation) in
-    turn t (l .job) (l .kind) (l .next) (l .line) (l .a) (e .result) (e .ensures) (omega (arith, e .ensures .inside, c .before .before .before .before .before .before .before .before .before .if3 .left)) (l .inv .room) (l .inv .few ok)
-    (l .inv .going ok) _ _ _ _ (l .inv .long)
+    let j : Job = withEquation (s .job) i (r .result .equation) in
+    turn t (l .job) (l .kind) (l .next) (l .line) (l .a) (e .result) (e .ensures) (omega (arith, e .ensures .inside, m .if3 .left))
+    (l .inv .room) (l .inv .few ok) (l .inv .going ok) _ _ _ _
+    (l .inv .long)
     (ap (λ (k : Line). lineOf k s f) (c .before .before .before .before .before .before .next .given .1)
     ∙ ap (λ (q : Kind). systemOf q i s f) (c .before .before .enum-told8 .given .1)
-    ∙ c .before .eq-line .ensures .all (l .next) (s .job) i refl
-    ∙ ap (λ (x : Line). judged (c .before .eq-line .result .status) s x j) (sym (c .before .before .before .before .after-system .ensures))
-    ∙ ap (λ (x : Job). judged (c .before .eq-line .result .status) s (c .before .before .before .before .after-system .result) x) (no-equation (s .job) i (c .before .eq-line .result .equation) (omega (arith, l .inv .long .eqs, c .if4 .left))))
+    ∙ r .ensures .all (l .next) (s .job) i refl
+    ∙ ap (λ (x : Line). judged (r .result .status) s x j) (sym (next .ensures))
+    ∙ ap (λ (x : Job). judged (r .result .status) s (next .result) x)
+    (no-equation (s .job) i (r .result .equation) (omega (arith, l .inv .long .eqs, c .if4 .left))))
 
 enum-told-9 : tie.Need-enum-told-9 Inv-loop μ-loop
 enum-told-9 c = search needs
 
 sided-line-requires : tie.Need-sided-line-requires Inv-loop μ-loop
 sided-line-requires c κs =
-    let t = c .before .before .before .before .before .before .before .before .before .before .before .before .before .before .before .before .args .text .now in
-    let l = c .before .before .before .before .before .before .before .before .before .before .before .before .loop in
-    let e = c .before .before .before .before .before .before .before .before .piece-end in
-    (l .inv .few (sym (c .before .before .before .before .before .before .before .before .before .before .is-bad .ensures) ∙ c .before .before .before .before .before .before .before .before .before .if2 .left), omega (arith, length-take (e .result - l .a) (drop (l .a) t)))
-
-add-line-9 : tie.Need-add-line-9 Inv-loop μ-loop
-add-line-9 c = search needs
+    let m = c .before .before .before .before .before .before .before in
+    let l = m .before .before .before .before .before .loop in
+    let e = m .before .piece-end in
+    let t = m .before .before .before .before .before .before .before .before .before .args .text .now in
+    (l .inv .few (sym (m .before .before .before .is-bad .ensures) ∙ m .before .before .if2 .left), omega (arith, length-take (e .result - l .a) (drop (l .a) t)))
 
 mul-row : tie.Need-mul-row Inv-loop μ-loop
 mul-row c = search needs
@@ -423,22 +409,26 @@ loop-less-10 c = search needs
 loop-again-10 : tie.Need-loop-again-10 Inv-loop μ-loop
 unfolding lineOf
 loop-again-10 c =
-    let t = c .before .before .before .before .before .before .before .before .before .before .before .before .before .before .before .before .before .before .before .before .args .text .now in
-    let l = c .before .before .before .before .before .before .before .before .before .before .before .before .before .before .before .before .loop in
-    let e = c .before .before .before .before .before .before .before .before .before .before .before .before .piece-end in
-    let ok = sym (c .before .before .before .before .before .before .before .before .before .before .before .before .before .before .is-bad .ensures) ∙ c .before .before .before .before .before .before .before .before .before .before .before .before .before .if2 .left in
+    let m = c .before .before .before .before .before .before .before .before .before .before .before in
+    let t = m .before .before .before .before .before .before .before .before .before .args .text .now in
+    let l = m .before .before .before .before .before .loop in
+    let e = m .before .piece-end in
+    let ok = sym (m .before .before .before .is-bad .ensures) ∙ m .before .before .if2 .left in
     let f : List ℕ = take (e .result - l .a) (drop (l .a) t) in
     let s : Reading = reading (l .line) (l .next) (withKind (l .job) (l .kind)) in
+    let r = c .before .before .before .sided-line in
+    let next = c .before .before .before .before .before .before .after-system in
     let i : ℕ = c .before .before .before .before .before .before .before .before .next .given .0 .0 in
-    let j : Job = withSide (withRow (s .job) i (c .before .before .before .sided-line .result .row .at)) i (c .before .before .before .sided-line .result .side) in
-    turn t (l .job) (l .kind) (l .next) (l .line) (l .a) (e .result) (e .ensures) (omega (arith, e .ensures .inside, c .before .before .before .before .before .before .before .before .before .before .before .if3 .left)) (l .inv .room) (l .inv .few ok)
-    (l .inv .going ok) _ _ _ _ (record { eqs = l .inv .long .eqs; rows = length-set (l .job .rows) _ _ ∙ l .inv .long .rows; right = length-set (l .job .right) _ _ ∙ l .inv .long .right })
+    let j : Job = withSide (withRow (s .job) i (r .result .row .at)) i (r .result .side) in
+    turn t (l .job) (l .kind) (l .next) (l .line) (l .a) (e .result) (e .ensures) (omega (arith, e .ensures .inside, m .if3 .left))
+    (l .inv .room) (l .inv .few ok) (l .inv .going ok) _ _ _ _
+    (record { eqs = l .inv .long .eqs; rows = length-set (l .job .rows) _ _ ∙ l .inv .long .rows; right = length-set (l .job .right) _ _ ∙ l .inv .long .right })
     (ap (λ (k : Line). lineOf k s f) (c .before .before .before .before .before .before .before .before .next .given .1)
     ∙ ap (λ (q : Kind). systemOf q i s f) (c .before .before .before .before .enum-told9 .given .1)
-    ∙ c .before .before .before .sided-line .ensures .all (l .next) (s .job) i refl
-    ∙ ap (λ (x : Line). judged (c .before .before .before .sided-line .result .status) s x j) (sym (c .before .before .before .before .before .before .after-system .ensures))
-    ∙ ap (λ (z : ℤ). judged (c .before .before .before .sided-line .result .status) s (c .before .before .before .before .before .before .after-system .result) (withSide (withRow (s .job) i (c .before .before .before .sided-line .result .row .at)) i z))
-    (sym (toZ-ofZ {w = w64} {z = c .before .before .before .sided-line .result .side} (search needs))))
+    ∙ r .ensures .all (l .next) (s .job) i refl
+    ∙ ap (λ (x : Line). judged (r .result .status) s x j) (sym (next .ensures))
+    ∙ ap (λ (z : ℤ). judged (r .result .status) s (next .result) (withSide (withRow (s .job) i (r .result .row .at)) i z))
+    (sym (toZ-ofZ {w = w64} {z = r .result .side} (search needs))))
 
 loop-less-11 : tie.Need-loop-less-11 Inv-loop μ-loop
 loop-less-11 c = search needs
@@ -446,35 +436,38 @@ loop-less-11 c = search needs
 loop-again-11 : tie.Need-loop-again-11 Inv-loop μ-loop
 unfolding lineOf
 loop-again-11 c =
-    let t = c .before .before .before .before .before .before .before .before .before .before .before .before .before .before .before .before .before .before .args .text .now in
-    let l = c .before .before .before .before .before .before .before .before .before .before .before .before .before .before .loop in
-    let e = c .before .before .before .before .before .before .before .before .before .before .piece-end in
-    let ok = sym (c .before .before .before .before .before .before .before .before .before .before .before .before .is-bad .ensures) ∙ c .before .before .before .before .before .before .before .before .before .before .before .if2 .left in
+    let m = c .before .before .before .before .before .before .before .before .before in
+    let t = m .before .before .before .before .before .before .before .before .before .args .text .now in
+    let l = m .before .before .before .before .before .loop in
+    let e = m .before .piece-end in
+    let ok = sym (m .before .before .before .is-bad .ensures) ∙ m .before .before .if2 .left in
     let f : List ℕ = take (e .result - l .a) (drop (l .a) t) in
     let s : Reading = reading (l .line) (l .next) (withKind (l .job) (l .kind)) in
+    let r = c .before .sided-line in
+    let next = c .before .before .before .before .after-system in
     let i : ℕ = c .before .before .before .before .before .before .next .given .0 .0 in
-    let j : Job = withSide (withRow (s .job) i (c .before .sided-line .result .row .at)) i (c .before .sided-line .result .side) in
-    turn t (l .job) (l .kind) (l .next) (l .line) (l .a) (e .result) (e .ensures) (omega (arith, e .ensures .inside, c .before .before .before .before .before .before .before .before .before .if3 .left)) (l .inv .room) (l .inv .few ok)
-    (l .inv .going ok) _ _ _ _ (l .inv .long)
+    let j : Job = withSide (withRow (s .job) i (r .result .row .at)) i (r .result .side) in
+    turn t (l .job) (l .kind) (l .next) (l .line) (l .a) (e .result) (e .ensures) (omega (arith, e .ensures .inside, m .if3 .left))
+    (l .inv .room) (l .inv .few ok) (l .inv .going ok) _ _ _ _
+    (l .inv .long)
     (ap (λ (k : Line). lineOf k s f) (c .before .before .before .before .before .before .next .given .1)
     ∙ ap (λ (q : Kind). systemOf q i s f) (c .before .before .enum-told9 .given .1)
-    ∙ c .before .sided-line .ensures .all (l .next) (s .job) i refl
-    ∙ ap (λ (x : Line). judged (c .before .sided-line .result .status) s x j) (sym (c .before .before .before .before .after-system .ensures))
-    ∙ ap (λ (x : Job). judged (c .before .sided-line .result .status) s (c .before .before .before .before .after-system .result) x) (no-side (withRow (s .job) i (c .before .sided-line .result .row .at)) i (c .before .sided-line .result .side) (omega (arith, l .inv .long .right, c .if5 .left))
-    ∙ no-row (s .job) i (c .before .sided-line .result .row .at) (omega (arith, l .inv .long .rows, c .if5 .left))))
+    ∙ r .ensures .all (l .next) (s .job) i refl
+    ∙ ap (λ (x : Line). judged (r .result .status) s x j) (sym (next .ensures))
+    ∙ ap (λ (x : Job). judged (r .result .status) s (next .result) x)
+    (no-side (withRow (s .job) i (r .result .row .at)) i (r .result .side) (omega (arith, l .inv .long .right, c .if5 .left))
+    ∙ no-row (s .job) i (r .result .row .at) (omega (arith, l .inv .long .rows, c .if5 .left))))
 
 enum-told-10 : tie.Need-enum-told-10 Inv-loop μ-loop
 enum-told-10 c = search needs
 
 row-line-requires : tie.Need-row-line-requires Inv-loop μ-loop
 row-line-requires c κs =
-    let t = c .before .before .before .before .before .before .before .before .before .before .before .before .before .before .before .before .args .text .now in
-    let l = c .before .before .before .before .before .before .before .before .before .before .before .before .loop in
-    let e = c .before .before .before .before .before .before .before .before .piece-end in
-    (l .inv .few (sym (c .before .before .before .before .before .before .before .before .before .before .is-bad .ensures) ∙ c .before .before .before .before .before .before .before .before .before .if2 .left), omega (arith, length-take (e .result - l .a) (drop (l .a) t)))
-
-add-line-10 : tie.Need-add-line-10 Inv-loop μ-loop
-add-line-10 c = search needs
+    let m = c .before .before .before .before .before .before .before in
+    let l = m .before .before .before .before .before .loop in
+    let e = m .before .piece-end in
+    let t = m .before .before .before .before .before .before .before .before .before .args .text .now in
+    (l .inv .few (sym (m .before .before .before .is-bad .ensures) ∙ m .before .before .if2 .left), omega (arith, length-take (e .result - l .a) (drop (l .a) t)))
 
 mul-row-2 : tie.Need-mul-row-2 Inv-loop μ-loop
 mul-row-2 c = search needs
@@ -488,20 +481,24 @@ loop-less-12 c = search needs
 loop-again-12 : tie.Need-loop-again-12 Inv-loop μ-loop
 unfolding lineOf
 loop-again-12 c =
-    let t = c .before .before .before .before .before .before .before .before .before .before .before .before .before .before .before .before .before .before .before .args .text .now in
-    let l = c .before .before .before .before .before .before .before .before .before .before .before .before .before .before .before .loop in
-    let e = c .before .before .before .before .before .before .before .before .before .before .before .piece-end in
-    let ok = sym (c .before .before .before .before .before .before .before .before .before .before .before .before .before .is-bad .ensures) ∙ c .before .before .before .before .before .before .before .before .before .before .before .before .if2 .left in
+    let m = c .before .before .before .before .before .before .before .before .before .before in
+    let t = m .before .before .before .before .before .before .before .before .before .args .text .now in
+    let l = m .before .before .before .before .before .loop in
+    let e = m .before .piece-end in
+    let ok = sym (m .before .before .before .is-bad .ensures) ∙ m .before .before .if2 .left in
     let f : List ℕ = take (e .result - l .a) (drop (l .a) t) in
     let s : Reading = reading (l .line) (l .next) (withKind (l .job) (l .kind)) in
+    let r = c .before .before .row-line in
+    let next = c .before .before .before .before .before .after-system in
     let i : ℕ = c .before .before .before .before .before .before .before .next .given .0 .0 in
-    let j : Job = withRow (s .job) i (c .before .before .row-line .result .row .at) in
-    turn t (l .job) (l .kind) (l .next) (l .line) (l .a) (e .result) (e .ensures) (omega (arith, e .ensures .inside, c .before .before .before .before .before .before .before .before .before .before .if3 .left)) (l .inv .room) (l .inv .few ok)
-    (l .inv .going ok) _ _ _ _ (record { eqs = l .inv .long .eqs; rows = length-set (l .job .rows) _ _ ∙ l .inv .long .rows; right = l .inv .long .right })
+    let j : Job = withRow (s .job) i (r .result .row .at) in
+    turn t (l .job) (l .kind) (l .next) (l .line) (l .a) (e .result) (e .ensures) (omega (arith, e .ensures .inside, m .if3 .left))
+    (l .inv .room) (l .inv .few ok) (l .inv .going ok) _ _ _ _
+    (record { eqs = l .inv .long .eqs; rows = length-set (l .job .rows) _ _ ∙ l .inv .long .rows; right = l .inv .long .right })
     (ap (λ (k : Line). lineOf k s f) (c .before .before .before .before .before .before .before .next .given .1)
     ∙ ap (λ (q : Kind). systemOf q i s f) (c .before .before .before .enum-told10 .given .1)
-    ∙ c .before .before .row-line .ensures .all (l .next) (s .job) i refl
-    ∙ ap (λ (x : Line). judged (c .before .before .row-line .result .status) s x j) (sym (c .before .before .before .before .before .after-system .ensures)))
+    ∙ r .ensures .all (l .next) (s .job) i refl
+    ∙ ap (λ (x : Line). judged (r .result .status) s x j) (sym (next .ensures)))
 
 loop-less-13 : tie.Need-loop-less-13 Inv-loop μ-loop
 loop-less-13 c = search needs
@@ -509,21 +506,26 @@ loop-less-13 c = search needs
 loop-again-13 : tie.Need-loop-again-13 Inv-loop μ-loop
 unfolding lineOf
 loop-again-13 c =
-    let t = c .before .before .before .before .before .before .before .before .before .before .before .before .before .before .before .before .before .before .args .text .now in
-    let l = c .before .before .before .before .before .before .before .before .before .before .before .before .before .before .loop in
-    let e = c .before .before .before .before .before .before .before .before .before .before .piece-end in
-    let ok = sym (c .before .before .before .before .before .before .before .before .before .before .before .before .is-bad .ensures) ∙ c .before .before .before .before .before .before .before .before .before .before .before .if2 .left in
+    let m = c .before .before .before .before .before .before .before .before .before in
+    let t = m .before .before .before .before .before .before .before .before .before .args .text .now in
+    let l = m .before .before .before .before .before .loop in
+    let e = m .before .piece-end in
+    let ok = sym (m .before .before .before .is-bad .ensures) ∙ m .before .before .if2 .left in
     let f : List ℕ = take (e .result - l .a) (drop (l .a) t) in
     let s : Reading = reading (l .line) (l .next) (withKind (l .job) (l .kind)) in
+    let r = c .before .row-line in
+    let next = c .before .before .before .before .after-system in
     let i : ℕ = c .before .before .before .before .before .before .next .given .0 .0 in
-    let j : Job = withRow (s .job) i (c .before .row-line .result .row .at) in
-    turn t (l .job) (l .kind) (l .next) (l .line) (l .a) (e .result) (e .ensures) (omega (arith, e .ensures .inside, c .before .before .before .before .before .before .before .before .before .if3 .left)) (l .inv .room) (l .inv .few ok)
-    (l .inv .going ok) _ _ _ _ (l .inv .long)
+    let j : Job = withRow (s .job) i (r .result .row .at) in
+    turn t (l .job) (l .kind) (l .next) (l .line) (l .a) (e .result) (e .ensures) (omega (arith, e .ensures .inside, m .if3 .left))
+    (l .inv .room) (l .inv .few ok) (l .inv .going ok) _ _ _ _
+    (l .inv .long)
     (ap (λ (k : Line). lineOf k s f) (c .before .before .before .before .before .before .next .given .1)
     ∙ ap (λ (q : Kind). systemOf q i s f) (c .before .before .enum-told10 .given .1)
-    ∙ c .before .row-line .ensures .all (l .next) (s .job) i refl
-    ∙ ap (λ (x : Line). judged (c .before .row-line .result .status) s x j) (sym (c .before .before .before .before .after-system .ensures))
-    ∙ ap (λ (x : Job). judged (c .before .row-line .result .status) s (c .before .before .before .before .after-system .result) x) (no-row (s .job) i (c .before .row-line .result .row .at) (omega (arith, l .inv .long .rows, c .if6 .left))))
+    ∙ r .ensures .all (l .next) (s .job) i refl
+    ∙ ap (λ (x : Line). judged (r .result .status) s x j) (sym (next .ensures))
+    ∙ ap (λ (x : Job). judged (r .result .status) s (next .result) x)
+    (no-row (s .job) i (r .result .row .at) (omega (arith, l .inv .long .rows, c .if6 .left))))
 
 enum-told-11 : tie.Need-enum-told-11 Inv-loop μ-loop
 enum-told-11 c = search needs
@@ -534,15 +536,17 @@ refused-requires-4 c κs = search needs
 returns-4 : tie.Need-returns-4 Inv-loop μ-loop
 unfolding readJob lineOf judged
 returns-4 c =
-    let t = c .before .before .before .before .before .before .before .before .before .before .before .before .before .args .text .now in
-    let l = c .before .before .before .before .before .before .before .before .before .loop in
-    let e = c .before .before .before .before .before .piece-end in
-    let ok = sym (c .before .before .before .before .before .before .before .is-bad .ensures) ∙ c .before .before .before .before .before .before .if2 .left in
+    let m = c .before .before .before .before in
+    let t = m .before .before .before .before .before .before .before .before .before .args .text .now in
+    let l = m .before .before .before .before .before .loop in
+    let e = m .before .piece-end in
+    let ok = sym (m .before .before .before .is-bad .ensures) ∙ m .before .before .if2 .left in
     let f : List ℕ = take (e .result - l .a) (drop (l .a) t) in
     let s : Reading = reading (l .line) (l .next) (withKind (l .job) (l .kind)) in
     rw (le-ltb _ _ (c .before .before .before .before .before .before .before .before .before .before .before .if1 .left))
-    (c .refused4 .ensures ∙ (turn t (l .job) (l .kind) (l .next) (l .line) (l .a) (e .result) (e .ensures) (omega (arith, e .ensures .inside, c .before .before .before .before .if3 .left)) (l .inv .room) (l .inv .few ok)
-    (l .inv .going ok) (Status.Refused Fault.Spelling (l .line)) Line.End (l .job) (l .kind) (l .inv .long)
+    (c .refused4 .ensures ∙ (turn t (l .job) (l .kind) (l .next) (l .line) (l .a) (e .result) (e .ensures) (omega (arith, e .ensures .inside, m .if3 .left))
+    (l .inv .room) (l .inv .few ok) (l .inv .going ok) (Status.Refused Fault.Spelling (l .line)) Line.End (l .job) (l .kind)
+    (l .inv .long)
     (ap (λ (k : Line). lineOf k s f) (c .before .enum-told11 .given .1))) .stopped refl)
 
 is-bad-requires-2 : tie.Need-is-bad-requires-2 Inv-loop μ-loop
@@ -554,7 +558,8 @@ refused-requires-5 c κs = search needs
 returns-5 : tie.Need-returns-5 Inv-loop μ-loop
 unfolding readJob
 returns-5 c =
-    rw (le-ltb _ _ (c .before .before .before .before .before .before .if1 .left)) (c .refused5 .ensures ∙ c .before .before .before .before .loop .inv .stopped (sym (c .before .before .is-bad2 .ensures) ∙ c .before .if7 .taken))
+    rw (le-ltb _ _ (c .before .before .before .before .before .before .if1 .left))
+    (c .refused5 .ensures ∙ c .before .before .before .before .loop .inv .stopped (sym (c .before .before .is-bad2 .ensures) ∙ c .before .if7 .taken))
 
 at-end-requires : tie.Need-at-end-requires Inv-loop μ-loop
 at-end-requires c κs = search needs
@@ -569,8 +574,10 @@ returns-6 c =
     let l = c .before .before .before .before .before .before .loop in
     let ok = sym (c .before .before .before .before .is-bad2 .ensures) ∙ c .before .before .before .if7 .left in
     let s : Reading = reading (l .line) (l .next) (withKind (l .job) (l .kind)) in
-    let read = sym (ap finishedCut (all-fed readLine lineFeed t (fresh s) (l .a) (c .before .before .before .before .before .loop-test .left))) ∙ l .inv .going ok in
-    rw (le-ltb _ _ (c .before .before .before .before .before .before .before .before .if1 .left)) (c .refused6 .ensures ∙ sym (end-bad s (sym (c .before .before .at-end .ensures) ∙ not-true _ (c .before .if8 .taken))) ∙ read)
+    let fed = all-fed readLine lineFeed t (fresh s) (l .a) (c .before .before .before .before .before .loop-test .left) in
+    let read = sym (ap finishedCut fed) ∙ l .inv .going ok in
+    rw (le-ltb _ _ (c .before .before .before .before .before .before .before .before .if1 .left))
+    (c .refused6 .ensures ∙ sym (end-bad s (sym (c .before .before .at-end .ensures) ∙ not-true _ (c .before .if8 .taken))) ∙ read)
 
 done-requires : tie.Need-done-requires Inv-loop μ-loop
 done-requires c κs = search needs
@@ -582,8 +589,10 @@ returns-7 c =
     let l = c .before .before .before .before .before .before .loop in
     let ok = sym (c .before .before .before .before .is-bad2 .ensures) ∙ c .before .before .before .if7 .left in
     let s : Reading = reading (l .line) (l .next) (withKind (l .job) (l .kind)) in
-    let read = sym (ap finishedCut (all-fed readLine lineFeed t (fresh s) (l .a) (c .before .before .before .before .before .loop-test .left))) ∙ l .inv .going ok in
-    rw (le-ltb _ _ (c .before .before .before .before .before .before .before .before .if1 .left)) (c .done .ensures ∙ sym (end-good s (sym (c .before .before .at-end .ensures) ∙ not-false _ (c .before .if8 .left))) ∙ read)
+    let fed = all-fed readLine lineFeed t (fresh s) (l .a) (c .before .before .before .before .before .loop-test .left) in
+    let read = sym (ap finishedCut fed) ∙ l .inv .going ok in
+    rw (le-ltb _ _ (c .before .before .before .before .before .before .before .before .if1 .left))
+    (c .done .ensures ∙ sym (end-good s (sym (c .before .before .at-end .ensures) ∙ not-false _ (c .before .if8 .left))) ∙ read)
 
 pub read-job-spec : {M : Type 1} → statement M
 read-job-spec =
@@ -604,54 +613,40 @@ read-job-spec =
     sub-l
     part-l-start
     part-l-end
-    enum-told
-    number-line-requires
     add-line
     add-a
+    enum-told
+    number-line-requires
     loop-less
     loop-again
     enum-told-2
     kind-line-requires
-    add-line-2
-    add-a-2
     loop-less-2
     loop-again-2
     enum-told-3
     n-line-requires
-    add-line-3
-    add-a-3
     loop-less-3
     loop-again-3
     enum-told-4
     lo-line-requires
-    add-line-4
-    add-a-4
     loop-less-4
     loop-again-4
     enum-told-5
     hi-line-requires
-    add-line-5
-    add-a-5
     loop-less-5
     loop-again-5
     enum-told-6
     inv-line-requires
-    add-line-6
-    add-a-6
     loop-less-6
     loop-again-6
     enum-told-7
     steps-line-requires
-    add-line-7
-    add-a-7
     loop-less-7
     loop-again-7
     enum-known-next
     after-system-requires
-    add-a-8
     enum-told-8
     eq-line-requires
-    add-line-8
     mul-q
     element-set-from-q
     loop-less-8
@@ -660,7 +655,6 @@ read-job-spec =
     loop-again-9
     enum-told-9
     sided-line-requires
-    add-line-9
     mul-row
     element-set-from-row
     mul-side
@@ -671,7 +665,6 @@ read-job-spec =
     loop-again-11
     enum-told-10
     row-line-requires
-    add-line-10
     mul-row-2
     element-set-from-row-2
     loop-less-12

@@ -6,7 +6,6 @@ use mathlib.Core.Path.{_≡_, sym, ap, _∙_}
 use mathlib.Core.List.{List}
 use lib.ListN.{length, getD}
 use Rattle.digits.proofs.Cases.{same-or}
-use Rattle.text.specs.Cut.{PieceEnd}
 use Rattle.text.proofs.piece_end.Statement.{statement}
 use Rattle.text.proofs.piece_end.Tie as tie
 
