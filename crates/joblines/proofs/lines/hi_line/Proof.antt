@@ -33,8 +33,19 @@ spelled-then-requires c κs = search needs
 returns : tie.Need-returns
 unfolding hiLine hiValue
 returns c =
-    let a = c .before .before .before .before .before .read-list .ensures ∙ ap readList (c .before .before .before .before .before .before .body .ensures) in
-    record { all = λ k j h. rw (h .0, h .1, c .spelled-then .ensures, c .before .high-line .ensures, c .before .before .right-count .ensures, c .before .before .before .cells-of .ensures, a) }
+    let read = c .before .before .before .before .before in
+    let a = read .read-list .ensures ∙ ap readList (read .before .body .ensures) in
+    record {
+      all = λ k j h. rw (
+        h .0,
+        h .1,
+        c .spelled-then .ensures,
+        c .before .high-line .ensures,
+        c .before .before .right-count .ensures,
+        c .before .before .before .cells-of .ensures,
+        a,
+      );
+    }
 
 pub hi-line-spec : {M : Type 1} → statement M
 hi-line-spec =

@@ -37,8 +37,18 @@ spelled-then-requires c κs = search needs
 returns : tie.Need-returns
 unfolding invLine invValue
 returns c =
-    let a = c .before .before .before .before .before .read-list .ensures ∙ ap readList (c .before .before .before .before .before .before .body .ensures) in
-    record { all = λ k j h. rw (h, c .spelled-then .ensures, c .before .inverse-line .ensures, c .before .before .right-count .ensures, c .before .before .before .rows-of .ensures, a) }
+    let read = c .before .before .before .before .before in
+    let a = read .read-list .ensures ∙ ap readList (read .before .body .ensures) in
+    record {
+      all = λ k j h. rw (
+        h,
+        c .spelled-then .ensures,
+        c .before .inverse-line .ensures,
+        c .before .before .right-count .ensures,
+        c .before .before .before .rows-of .ensures,
+        a,
+      );
+    }
 
 pub inv-line-spec : {M : Type 1} → statement M
 inv-line-spec =

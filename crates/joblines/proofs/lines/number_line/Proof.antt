@@ -33,19 +33,25 @@ enum-known-v c = search needs
 returns : tie.Need-returns
 unfolding numberLine numberValue judged
 returns c =
-    let v = sym (c .before .before .count-of .ensures ∙ ap (countOf numberMax) (c .before .before .before .read-number .ensures ∙ ap readNumber (c .before .before .before .before .body .ensures))) ∙ c .enum-told .given .1 in
+    let from = c .before .before in
+    let number = from .before .read-number .ensures ∙ ap readNumber (from .before .before .body .ensures) in
+    let v = sym (from .count-of .ensures ∙ ap (countOf numberMax) number) ∙ c .enum-told .given .1 in
     record { all = λ k j h. rw v }
 
 returns-2 : tie.Need-returns-2
 unfolding numberLine numberValue judged
 returns-2 c =
-    let v = sym (c .before .before .count-of .ensures ∙ ap (countOf numberMax) (c .before .before .before .read-number .ensures ∙ ap readNumber (c .before .before .before .before .body .ensures))) ∙ c .enum-told2 .given .1 in
+    let from = c .before .before in
+    let number = from .before .read-number .ensures ∙ ap readNumber (from .before .before .body .ensures) in
+    let v = sym (from .count-of .ensures ∙ ap (countOf numberMax) number) ∙ c .enum-told2 .given .1 in
     record { all = λ k j h. rw v }
 
 returns-3 : tie.Need-returns-3
 unfolding numberLine numberValue judged
 returns-3 c =
-    let v = sym (c .before .before .before .count-of .ensures ∙ ap (countOf numberMax) (c .before .before .before .before .read-number .ensures ∙ ap readNumber (c .before .before .before .before .before .body .ensures))) ∙ c .before .v .given .1 in
+    let from = c .before .before .before in
+    let number = from .before .read-number .ensures ∙ ap readNumber (from .before .before .body .ensures) in
+    let v = sym (from .count-of .ensures ∙ ap (countOf numberMax) number) ∙ c .before .v .given .1 in
     record { all = λ k j h. rw v }
 
 pub number-line-spec : {M : Type 1} → statement M

@@ -22,7 +22,16 @@ spelled-then-requires c κs = search needs
 returns : tie.Need-returns
 unfolding systemOf eqLine eqValue
 returns c =
-    record { all = λ k j i h. rw (h, c .spelled-then .ensures, c .before .and-then .ensures, c .before .before .equation-line .ensures, c .before .before .before .refused-unless .ensures, c .before .before .before .before .before .before .read-equation .ensures) }
+    record {
+      all = λ k j i h. rw (
+        h,
+        c .spelled-then .ensures,
+        c .before .and-then .ensures,
+        c .before .before .equation-line .ensures,
+        c .before .before .before .refused-unless .ensures,
+        c .before .before .before .before .before .before .read-equation .ensures,
+      );
+    }
 
 pub eq-line-spec : {M : Type 1} → statement M
 eq-line-spec =

@@ -41,9 +41,21 @@ spelled-then-requires c κs = search needs
 returns : tie.Need-returns
 unfolding systemOf sidedValue
 returns c =
-    let a = c .before .before .before .before .before .before .read-list .ensures ∙ ap readList (c .before .before .before .before .before .before .before .body .ensures) in
+    let read = c .before .before .before .before .before .before in
+    let a = read .read-list .ensures ∙ ap readList (read .before .body .ensures) in
     let side = c .before .before .before .side-of in
-    record { all = λ k j i h. rw (h, c .spelled-then .ensures, c .before .sided-line .ensures, c .before .before .right-count .ensures, toZ-ofZ {w = w64} {z = side .result} (search needs), side .ensures, c .before .before .before .before .cells-of .ensures, a) }
+    record {
+      all = λ k j i h. rw (
+        h,
+        c .spelled-then .ensures,
+        c .before .sided-line .ensures,
+        c .before .before .right-count .ensures,
+        toZ-ofZ {w = w64} {z = side .result} (search needs),
+        side .ensures,
+        c .before .before .before .before .cells-of .ensures,
+        a,
+      );
+    }
 
 pub sided-line-spec : {M : Type 1} → statement M
 sided-line-spec =
