@@ -99,6 +99,15 @@ static void ask_by_word(const struct asked *r)
         expect(false, r, "no such request");
 }
 
+/* The header's limit is the library's: "text over 2,048 bytes" is fault 1. */
+static void expect_limit(void)
+{
+    static const uint8_t text[FLOODRAFTER_TEXT_MAX + 1];
+    const struct asked limit = {.request = {.word = "limit"}};
+    expect(floodrafter_check_job(text, FLOODRAFTER_TEXT_MAX).fault != FLOODRAFTER_LONG_TEXT, &limit, "the longest text is too long");
+    expect(floodrafter_check_job(text, FLOODRAFTER_TEXT_MAX + 1).fault == FLOODRAFTER_LONG_TEXT, &limit, "a longer text is taken");
+}
+
 int main(int argc, char **argv)
 {
     if (argc != 3) {
@@ -107,6 +116,7 @@ int main(int argc, char **argv)
     }
     struct bytes requests = whole_file(argv[1]), answers = whole_file(argv[2]);
     struct asked r = {.before = 0};
+    expect_limit();
     while (next_request(&requests, &r.request)) {
         r.answer = next_answer(&answers);
         ask_by_word(&r);

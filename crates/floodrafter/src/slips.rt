@@ -35,6 +35,7 @@ fn term_slip(q: Equation, n: usize) -> Slip
 pub fn slip_of(line: &[u8], n: usize) -> Slip
     requires { ⌜ n ≤ nMax ⌝ }
 {
+    // No line is longer than its text: the test only tells the prover so.
     if line.len() > TEXT {
         return Slip::Many;
     }
