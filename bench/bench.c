@@ -32,10 +32,11 @@ struct times {
     double of[SOLVERS];
 };
 
+/* The thread's own processor time, which what else the machine does hardly moves. */
 static double now(void)
 {
     struct timespec t;
-    clock_gettime(CLOCK_MONOTONIC, &t);
+    clock_gettime(CLOCK_THREAD_CPUTIME_ID, &t);
     return (double)t.tv_sec + 1e-9 * (double)t.tv_nsec;
 }
 
