@@ -13,12 +13,12 @@ use Rattle.systems.specs.Terms.{factorI, termOver, equationOver, lowered, termS
 use Rattle.systems.specs.Fractions.{power, termNum, equationNum}
 use Rattle.systems.specs.Kinds.{unitE, vectorE, linearEquation, eigenEquation, equationOf}
 use Rattle.run.specs.Step.{imageOf}
-use Rattle.run.specs.Decide.{allMeet, allInside, allSame, cutBox, decideOf}
+use Rattle.run.specs.Decide.{allMeet, allInside, cutSame, cutBox, decideOf}
 use Rattle.run.specs.Run.{imageBox, stepOf, runOf}
 use Rattle.run.specs.Job.{startOf, outcomeOf, resultOf, runJob}
 use Rattle.examples.specs.Table.{table, Holds}
 
 pub marked-examples : Holds table
-unfolding floorBy ceilBy minℤ maxℤ sumTo tab carry allB addI negI sumI scaleI wideI outI mulI midI meetsI insideI cutI sameI dotI dOf unitZ entryB bOf eOf isWithin allWithin allOrdered alike falls inOrder goodTerm goodPlace goodTerms goodCoefs andThen refusedUnless linesOf goodUnknowns goodMatrix numberLine unknownsLine lowLine highLine inverseLine stepsLine equationLine rowLine sidedLine systemLine systemLines headLines bodyLines checkJob factorI termOver equationOver lowered termSlope slopeOver power termNum degree equationNum unitE vectorE linearEquation eigenEquation equationOf imageOf allMeet allInside allSame cutBox decideOf imageBox stepOf runOf startOf outcomeOf resultOf runJob
+unfolding floorBy ceilBy minℤ maxℤ sumTo tab carry allB addI negI sumI scaleI wideI outI mulI midI meetsI insideI cutI sameI dotI dOf unitZ entryB bOf eOf isWithin allWithin allOrdered alike falls inOrder goodTerm goodPlace goodTerms goodCoefs andThen refusedUnless linesOf goodUnknowns goodMatrix numberLine unknownsLine lowLine highLine inverseLine stepsLine equationLine rowLine sidedLine systemLine systemLines headLines bodyLines checkJob factorI termOver equationOver lowered termSlope slopeOver power termNum degree equationNum unitE vectorE linearEquation eigenEquation equationOf imageOf allMeet allInside cutSame cutBox decideOf imageBox stepOf runOf startOf outcomeOf resultOf runJob
 marked-examples =
     (refl, (refl, (refl, (refl, (refl, (refl, (refl, (refl, (refl, (refl, (refl, (refl, (refl, tt)))))))))))))

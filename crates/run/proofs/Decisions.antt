@@ -16,7 +16,7 @@ use Rattle.intervals.proofs.Meeting.{cut-order, hold-meets}
 use Rattle.jobs.proofs.RangeLaws.{each-all}
 use Rattle.intervals.specs.declared.Interval.{Interval}
 use Rattle.run.specs.declared.Move.{Move}
-use Rattle.run.specs.Decide.{allMeet, allInside, allSame, cutBox, decision, decideOf}
+use Rattle.run.specs.Decide.{allMeet, allInside, cutSame, cutBox, decision, decideOf}
 use Rattle.intervals.proofs.Meeting as intervals
 
 -- "X low < K low and K high < X high"
@@ -39,9 +39,9 @@ module _ (n : ℕ) (x k : List Interval) where
 
   pub decided : Decided
   unfolding decideOf
-  decided = by (allMeet n x k) refl (allInside n x k) refl (allSame n (cutBox n x k) x) refl
+  decided = by (allMeet n x k) refl (allInside n x k) refl (cutSame n x k) refl
     where
-      by : (m : Bool) → allMeet n x k ≡ m → (s : Bool) → allInside n x k ≡ s → (t : Bool) → allSame n (cutBox n x k) x ≡ t → Decided
+      by : (m : Bool) → allMeet n x k ≡ m → (s : Bool) → allInside n x k ≡ s → (t : Bool) → cutSame n x k ≡ t → Decided
       by false m s i t e = none (rw m) m
       by true m true i t e = unique (rw (m, i)) (inside-strictly i)
       by true m false i true e = stalled (rw (m, i, e))

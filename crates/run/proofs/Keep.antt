@@ -1,6 +1,6 @@
 -- A box that goes on lies in the one before it, so it stays in range.
 use mathlib.Core.Path.{_≡_, refl}
-use mathlib.Core.Bool.{Bool, true, false, cond}
+use mathlib.Core.Bool.{Bool, true, false, not, cond}
 use mathlib.Core.List.{List}
 use Prim.Native.Nat.{ℕ, _<_}
 use native.Mathlib.Omega.{arith}
@@ -15,7 +15,7 @@ use Rattle.systems.specs.Ranges.{BoxIn}
 use Rattle.intervals.specs.declared.Interval.{Interval}
 use Rattle.run.specs.declared.Move.{Move}
 use Rattle.run.specs.declared.Decision.{Decision}
-use Rattle.run.specs.Decide.{allMeet, allInside, allSame, cutBox, decision, decideOf}
+use Rattle.run.specs.Decide.{allMeet, allInside, cutSame, cutBox, decision, decideOf}
 
 module _ {n : ℕ} (x k : List Interval) (box : BoxIn n (sideAt x)) (order : (i : ℕ) → i < n → sideAt k i .lo ≤ℤ sideAt k i .hi) where
   cut-in : allMeet n x k ≡ true → BoxIn n (sideAt (cutBox n x k))
@@ -27,10 +27,10 @@ module _ {n : ℕ} (x k : List Interval) (box : BoxIn n (sideAt x)) (order : (i 
 
   pub next-in : decideOf n x k .what ≡ Move.Next → BoxIn n (sideAt (decideOf n x k .sides))
   unfolding decideOf
-  next-in = go (allMeet n x k) refl (allInside n x k) (allSame n (cutBox n x k) x)
+  next-in = go (allMeet n x k) refl (allInside n x k) (cutSame n x k)
     where
       by : Bool → Bool → Bool → Decision
-      by t u v = cond t (cond u (decision Move.Unique k) (cond v (decision Move.Stalled x) (decision Move.Next (cutBox n x k)))) (decision Move.None x)
+      by t u v = cond (not t) (decision Move.None x) (cond u (decision Move.Unique k) (cond v (decision Move.Stalled x) (decision Move.Next (cutBox n x k))))
 
       bad : _≡_ {A = ℕ} 0 1 → ⊥
       bad e = omega arith

@@ -1,6 +1,7 @@
 pub mod Live
 pub mod Image
 pub mod Keep
+pub mod Pass
 pub mod Turns
 pub mod JobLaws
 pub mod Newton

@@ -1,5 +1,5 @@
 -- Document 01, "One Krawczyk step": what the image K decides on the box X. A box is a list of nMax intervals, those past n zero.
-use mathlib.Core.Bool.{Bool, cond}
+use mathlib.Core.Bool.{Bool, not, cond}
 use mathlib.Core.List.{List}
 use Prim.Native.Nat.{ℕ}
 use Rattle.lists.specs.Loops.{allB}
@@ -9,7 +9,7 @@ use Rattle.intervals.specs.declared.Interval.{Interval}
 use Rattle.run.specs.declared.Move.{Move}
 use Rattle.run.specs.declared.Decision.{Decision}
 
--- does every coordinate of K meet that of X?
+-- does every coordinate of K meet that of X? Where not, "some coordinate of K does not meet that of X".
 unfoldable pub allMeet : ℕ → List Interval → List Interval → Bool
 allMeet n x k = allB n (λ i. meetsI (sideAt x i) (sideAt k i))
 
@@ -17,12 +17,13 @@ allMeet n x k = allB n (λ i. meetsI (sideAt x i) (sideAt k i))
 unfoldable pub allInside : ℕ → List Interval → List Interval → Bool
 allInside n x k = allB n (λ i. insideI (sideAt x i) (sideAt k i))
 
-unfoldable pub allSame : ℕ → List Interval → List Interval → Bool
-allSame n x k = allB n (λ i. sameI (sideAt x i) (sideAt k i))
-
 -- "K cut with X"
 unfoldable pub cutBox : ℕ → List Interval → List Interval → List Interval
 cutBox n x k = vectorOf n (λ i. cutI (sideAt x i) (sideAt k i))
+
+-- "K cut with X is X itself"
+unfoldable pub cutSame : ℕ → List Interval → List Interval → Bool
+cutSame n x k = allB n (λ i. sameI (cutI (sideAt x i) (sideAt k i)) (sideAt x i))
 
 abbrev pub decision : Move → List Interval → Decision
 decision move x = record { what = move; sides = x }
@@ -30,8 +31,7 @@ decision move x = record { what = move; sides = x }
 -- "Then, in this order": none with box X, unique with box K, stalled with box X, "otherwise X becomes K cut with X"
 unfoldable pub decideOf : ℕ → List Interval → List Interval → Decision
 decideOf n x k =
-    cond (allMeet n x k)
+    cond (not (allMeet n x k)) (decision Move.None x)
     (cond (allInside n x k) (decision Move.Unique k)
-    (cond (allSame n (cutBox n x k) x) (decision Move.Stalled x)
+    (cond (cutSame n x k) (decision Move.Stalled x)
     (decision Move.Next (cutBox n x k))))
-    (decision Move.None x)

@@ -7,12 +7,13 @@ use sizes::N;
 ghost use mathlib.Core.Path.{_≡_};
 ghost use Prim.Native.Nat.{_≤_};
 ghost use Rattle.sizes.specs.Sizes.{nMax};
+ghost use Rattle.lists.specs.Loops.{both};
 ghost use Rattle.intervals.specs.Interval.{pointI, addI, negI};
 ghost use Rattle.intervals.specs.Places.{entryAt, sideAt, vectorOf};
 ghost use Rattle.jobs.specs.Places.{equationAt};
 ghost use Rattle.systems.specs.Ranges.{BoxIn};
 ghost use Rattle.run.specs.Step.{middleOf};
-ghost use Rattle.run.specs.Decide.{allMeet, allInside, allSame, cutBox, decideOf};
+ghost use Rattle.run.specs.Decide.{decideOf};
 ghost use Rattle.run.specs.Run.{imageBox};
 ghost use Rattle.run.specs.Ranges.{StepIn, JoinIn};
 
@@ -69,75 +70,41 @@ pub fn image(eqs: [Equation; N], c: [[i64; N]; N], x: [Interval; N], n: usize) -
     joined(m, d, e, n)
 }
 
-// Does every coordinate of k meet that of x?
-pub fn all_meet(x: [Interval; N], k: [Interval; N], n: usize) -> bool
-    requires { ⌜ n ≤ nMax ⌝ }
-    ensures { λ r. ⌜ r ≡ allMeet n x k ⌝ }
+fn both(a: bool, b: bool) -> bool
+    ensures { λ r. ⌜ r ≡ both a b ⌝ }
 {
-    for i in 0..n {
-        if !intervals::meets(x[i], k[i]) {
-            return false;
-        }
-    }
-    true
+    if a { b } else { false }
 }
 
-// Does k lie strictly inside x?
-pub fn all_inside(x: [Interval; N], k: [Interval; N], n: usize) -> bool
-    requires { ⌜ n ≤ nMax ⌝ }
-    ensures { λ r. ⌜ r ≡ allInside n x k ⌝ }
-{
-    for i in 0..n {
-        if !intervals::strictly_inside(x[i], k[i]) {
-            return false;
-        }
-    }
-    true
-}
-
-pub fn all_same(a: [Interval; N], b: [Interval; N], n: usize) -> bool
-    requires { ⌜ n ≤ nMax ⌝ }
-    ensures { λ r. ⌜ r ≡ allSame n a b ⌝ }
-{
-    for i in 0..n {
-        if !intervals::same(a[i], b[i]) {
-            return false;
-        }
-    }
-    true
-}
-
-// k cut with x.
-pub fn cut_box(x: [Interval; N], k: [Interval; N], n: usize) -> [Interval; N]
-    requires { ⌜ n ≤ nMax ⌝ }
-    ensures { λ r. ⌜ r ≡ cutBox n x k ⌝ }
-{
-    let mut c = [Interval { lo: 0, hi: 0 }; N];
-    for i in 0..n {
-        c[i] = intervals::cut(x[i], k[i]);
-    }
-    c
-}
-
-// What the image k decides on the box x.
+// What the image k decides on the box x, by one look at each coordinate.
 pub fn decide(x: [Interval; N], k: [Interval; N], n: usize) -> Decision
     requires { ⌜ n ≤ nMax ⌝ }
     ensures { λ r. ⌜ r ≡ decideOf n x k ⌝ }
 {
-    if !all_meet(x, k, n) {
-        return Decision {
-            what: Move::None,
-            sides: x,
-        };
+    let mut c = [Interval { lo: 0, hi: 0 }; N];
+    let mut inside = true;
+    let mut same = true;
+    for i in 0..n {
+        let a = x[i];
+        let b = k[i];
+        if !intervals::meets(a, b) {
+            return Decision {
+                what: Move::None,
+                sides: x,
+            };
+        }
+        let side = intervals::cut(a, b);
+        inside = both(inside, intervals::strictly_inside(a, b));
+        same = both(same, intervals::same(side, a));
+        c[i] = side;
     }
-    if all_inside(x, k, n) {
+    if inside {
         return Decision {
             what: Move::Unique,
             sides: k,
         };
     }
-    let c = cut_box(x, k, n);
-    if all_same(c, x, n) {
+    if same {
         return Decision {
             what: Move::Stalled,
             sides: x,
