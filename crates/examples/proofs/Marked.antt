@@ -21,4 +21,4 @@ use Rattle.examples.specs.Table.{table, Holds}
 pub marked-examples : Holds table
 unfolding floorBy ceilBy minℤ maxℤ sumTo tab carry allB addI negI sumI scaleI wideI outI mulI midI meetsI insideI cutI sameI dotI dOf unitZ entryB bOf eOf isWithin allWithin allOrdered alike falls inOrder goodTerm goodPlace goodTerms goodCoefs andThen refusedUnless linesOf goodUnknowns goodMatrix numberLine unknownsLine lowLine highLine inverseLine stepsLine equationLine rowLine sidedLine systemLine systemLines headLines bodyLines checkJob factorI termOver equationOver lowered termSlope slopeOver power termNum degree equationNum unitE vectorE linearEquation eigenEquation equationOf imageOf allMeet allInside cutSame cutBox decideOf imageBox stepOf runOf startOf outcomeOf resultOf runJob
 marked-examples =
-    (refl, (refl, (refl, (refl, (refl, (refl, (refl, (refl, (refl, (refl, (refl, (refl, (refl, tt)))))))))))))
+    (refl, (refl, (refl, (refl, (refl, (refl, (refl, (refl, (refl, (refl, (refl, (refl, (refl, (refl, tt))))))))))))))

@@ -4,8 +4,9 @@ use mathlib.Core.List.{List, [], _∷_}
 use Prim.Native.Nat.{ℕ}
 use lib.IntN.{ℤ, pos}
 use Rattle.intervals.specs.declared.Interval.{Interval}
-use Rattle.intervals.specs.Interval.{mulI, midI}
+use Rattle.intervals.specs.Interval.{pointI, zeroI, mulI, midI}
 use Rattle.intervals.specs.Places.{numberAt, sideAt}
+use Rattle.systems.specs.Terms.{equationOver}
 use Rattle.systems.specs.Fractions.{equationNum}
 use Rattle.systems.specs.Kinds.{equationOf}
 use Rattle.run.specs.Step.{imageOf}
@@ -21,7 +22,7 @@ use Rattle.examples.specs.Jobs.{minus, job41, job7, job9, job11, job12}
 pub data Thing : Type 0 where
   interval : Interval → Thing
   number : ℤ → Thing
-  pair : ℤ → ℤ → Thing
+  pair : Thing → Thing → Thing
   answer : Answer → Thing
 
 pub record Example : Type 0 where
@@ -46,9 +47,17 @@ runs j v steps x = record {
 abbrev image : Job → Thing
 image j = Thing.interval (imageOf (j .n) (equationOf j) (inverseOf j) (sideAt (startOf j)) 0)
 
--- equation i of a job at a point of whole marks
-abbrev valueAt : Job → ℕ → List ℤ → ℤ
-valueAt j i point = equationNum (j .n) (equationOf j i) (numberAt point) (pos 1)
+-- equation i of a job at a point p of whole marks: by the exact formulas,
+abbrev valueAt : Job → List ℤ → ℕ → Thing
+valueAt j p i = Thing.number (equationNum (j .n) (equationOf j i) (numberAt p) (pos 1))
+
+-- and as a step takes it, over the box [p, p]
+abbrev valueOver : Job → List ℤ → ℕ → Thing
+valueOver j p i = Thing.interval (equationOver (j .n) (equationOf j i) (λ k. pointI (numberAt p k)))
+
+-- "at the point .. both equations are" this
+abbrev bothAre : (ℕ → Thing) → Thing → Example
+bothAre value told = record { computed = Thing.pair (value 0) (value 1); told = Thing.pair told told }
 
 abbrev point12 : List ℤ
 point12 = pos 65536 ∷ pos 131072 ∷ []
@@ -72,7 +81,8 @@ table =
     ∷ runs (job41 (pos 0)) Verdict.Stalled 1 (from (pos 65536) (pos 131072) ∷ [])
     ∷ runs job11 Verdict.Unique 1 (from (pos 32768) (pos 32768) ∷ from (pos 16384) (pos 16384) ∷ [])
     -- T12
-    ∷ record { computed = Thing.pair (valueAt job12 0 point12) (valueAt job12 1 point12); told = Thing.pair (pos 0) (pos 0) }
+    ∷ bothAre (valueAt job12 point12) (Thing.number (pos 0))
+    ∷ bothAre (valueOver job12 point12) (Thing.interval zeroI)
     ∷ []
 
 abbrev pub Holds : List Example → Type 0

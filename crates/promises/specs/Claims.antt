@@ -34,7 +34,8 @@ pub record Same (n : ℕ) (p r : Point) : Type 0 where
 pub record Zero (n : ℕ) (q : ℕ → Equation) (p : Point) : Type 0 where
   pub each : (i : ℕ) → i < n → equationNum n (q i) (p .num) (p .den) ≡ pos 0
 
--- "The exact Newton image of a fraction point p is p - C f(p)"
+-- "The exact Newton image of a fraction point p is p - C f(p)": f(p) is `equationNum` of the equations, which are the formulas of document 01 by `equation-is`
+-- (systems, proofs/Formulas)
 abbrev pub newtonOf : ℕ → (ℕ → Equation) → (ℕ → ℕ → ℤ) → Point → Point
 newtonOf n q C p = record { num = newtonNum n q C (p .num) (p .den); den = newtonDen (p .den) }
 
