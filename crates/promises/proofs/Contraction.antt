@@ -30,7 +30,7 @@ use Rattle.run.specs.Step.{middleOf, offsetOf, slopeOf, imageOf}
 use Rattle.run.specs.Newton.{newtonScale, newtonNum}
 use Rattle.run.proofs.Newton.{scale-pos, quotientNum, newton-diff, zero-newton}
 use Rattle.run.proofs.Hold.{hold-middle, hold-quotient, middle-in, image-holds}
-use Rattle.run.proofs.Decisions.{Strictly}
+use Rattle.run.specs.Meanings.{Strictly}
 use Rattle.intervals.specs.declared.Interval.{Interval}
 use Rattle.jobs.specs.declared.Equation.{Equation}
 use Rattle.promises.specs.Claims.{Ordered, widthOf, Largest}

@@ -3,9 +3,11 @@ pub mod Contraction
 pub mod Scale
 pub mod Points
 pub mod Runs
+pub mod Verdicts
 pub mod Answers
 pub mod Promises
 pub mod Jobs
 pub mod Entry
 pub mod Demand3
+pub mod Demand2
 pub mod Examples

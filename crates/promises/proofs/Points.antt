@@ -13,7 +13,7 @@ use Rattle.intervals.specs.Places.{sideAt}
 use Rattle.systems.specs.Fractions.{InBox, power, DegreesIn}
 use Rattle.run.specs.Step.{imageOf}
 use Rattle.run.specs.Newton.{newtonScale, newtonDen, newtonNum}
-use Rattle.run.proofs.Decisions.{Strictly}
+use Rattle.run.specs.Meanings.{Strictly}
 use Rattle.intervals.specs.declared.Interval.{Interval}
 use Rattle.jobs.specs.declared.Equation.{Equation}
 use Rattle.promises.specs.Claims.{Ordered, Point, Lies, Same, Zero, newtonOf, apart, widthOf, Largest, Closer}

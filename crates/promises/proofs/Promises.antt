@@ -8,7 +8,8 @@ use Rattle.jobs.specs.declared.Verdict.{Verdict}
 use Rattle.run.specs.Run.{outcome, settle, stepOf, imageBox}
 use Rattle.promises.specs.Claims.{Point, Lies, Same, Zero, newtonOf, BoxInside, System, runWith, Begins, UniqueStep}
 use Rattle.promises.proofs.Runs.{more, run-one, run-on, run-nested, image-box}
-use Rattle.promises.proofs.Answers.{answer-stays, step-begun, answer-keeps, answer-none, step-keeps, answer-same, answer-unique}
+use Rattle.promises.proofs.Verdicts.{answer-stays}
+use Rattle.promises.proofs.Answers.{step-begun, answer-keeps, answer-none, step-keeps, answer-same, answer-unique}
 
 module _ (s : System) where
   -- "More steps never unsay an answer. Take one accepted job with two step allowances. The larger allowance's box lies in the smaller's,"

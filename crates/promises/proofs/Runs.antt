@@ -22,9 +22,10 @@ use Rattle.run.specs.declared.Outcome.{Outcome}
 use Rattle.run.specs.Step.{imageOf}
 use Rattle.run.specs.Newton.{newtonDen, newtonNum}
 use Rattle.run.specs.Decide.{allMeet, cutBox, decideOf}
+use Rattle.run.specs.Meanings.{Strictly}
 use Rattle.run.specs.Run.{outcome, settle, imageBox, stepOf, runOf}
 use Rattle.run.proofs.Hold.{middle-in, image-holds, image-keeps, image-at}
-use Rattle.run.proofs.Decisions.{Strictly, Decided, none, unique, stalled, next, decided, all-meet, cut-at, cut-inside, cut-ordered}
+use Rattle.run.proofs.Decisions.{Decided, none, unique, stalled, next, decided, all-meet, cut-at, cut-inside, cut-ordered, step-is}
 use Rattle.promises.specs.Claims.{Ordered, BoxInside}
 
 pub zero-one : _≡_ {A = ℕ} 0 1 → ⊥
@@ -39,7 +40,7 @@ spent-or Verdict.None = inr (λ e. zero-one (cc))
 spent-or Verdict.Unique = inr (λ e. zero-one (cc))
 spent-or Verdict.Stalled = inr (λ e. zero-one (cc))
 
-verdict-of : {o p : Outcome} → o ≡ p → o .verdict ≡ p .verdict
+pub verdict-of : {o p : Outcome} → o ≡ p → o .verdict ≡ p .verdict
 verdict-of = ap (λ (o : Outcome). o .verdict)
 
 -- ---- boxes in boxes
@@ -71,13 +72,13 @@ module _ (n : ℕ) (q : ℕ → Equation) (C : ℕ → ℕ → ℤ) where
       → Z (λ a. outcome Verdict.Stalled (done + 1) x)
       → (allMeet n x (K x) ≡ true → Z (λ a. runOf n q C a (done + 1) (cut x)))
       → Z (λ a. runOf n q C (suc a) done x)
-  unfolding runOf stepOf
-  by-step x done Z onNone onUnique onStalled onNext = by (decided n x (K x))
+  unfolding runOf
+  by-step x done Z onNone onUnique onStalled onNext = rw (step-is n q C x) (by (decided n x (K x)))
     where
       by : Decided n x (K x) → Z (λ a. settle (decideOf n x (K x) .what) (decideOf n x (K x) .sides) (done + 1) (runOf n q C a (done + 1)))
       by (none e m) = rw e (onNone m)
       by (unique e s) = rw e (onUnique s)
-      by (stalled e) = rw e onStalled
+      by (stalled e s) = rw e onStalled
       by (next e m) = rw e (onNext m)
 
   -- ---- several steps
@@ -125,6 +126,33 @@ module _ (n : ℕ) (q : ℕ → Equation) (C : ℕ → ℕ → ℤ) where
       (by-step x done (λ f. (f a .verdict ≡ Verdict.Spent → ⊥) → f (a + b) ≡ f a) (λ m h. refl) (λ s h. refl) (λ h. refl)
       (λ m. run-stays a b (done + 1) (cut x)) h)
 
+  -- ---- the step that decides
+  -- it begins on the box x, after t steps that decided nothing
+  pub record Deciding (start : List Interval) (a : ℕ) : Type 0 where
+    pub t : ℕ
+    pub x : List Interval
+    pub within : t < a
+    pub begins : runOf n q C t 0 start ≡ outcome Verdict.Spent t x
+    pub answer : runOf n q C a 0 start ≡ runOf n q C 1 t x
+
+  pub deciding : (a : ℕ) (start : List Interval) → (runOf n q C a 0 start .verdict ≡ Verdict.Spent → ⊥) → Deciding start a
+  deciding zero start h = absurd (h (verdict-of (run-none 0 start)))
+  deciding (suc a) start h = ⊎-elim here (λ decided. later decided (deciding a start decided)) (spent-or (runOf n q C a 0 start .verdict))
+    where
+      here : runOf n q C a 0 start .verdict ≡ Verdict.Spent → Deciding start (suc a)
+      here v =
+          let begins = whole-spent a start v in
+          record { t = a; x = runOf n q C a 0 start .sides; within = omega arith; begins = begins; answer = rw (← add-one a) (run-on a 1 0 start begins) }
+
+      later : (runOf n q C a 0 start .verdict ≡ Verdict.Spent → ⊥) → Deciding start a → Deciding start (suc a)
+      later decided d = record {
+        t = d .t;
+        x = d .x;
+        within = omega (arith, d .within);
+        begins = d .begins;
+        answer = rw (← add-one a) (run-stays a 1 0 start decided ∙ d .answer);
+      }
+
   module _ (room : n ≤ nMax) where
     -- ---- boxes only shrink
     image-inside : (x : List Interval) → Strictly n (sideAt x) (sideAt (K x)) → BoxInside n (K x) x
@@ -152,7 +180,7 @@ module _ (n : ℕ) (q : ℕ → Equation) (C : ℕ → ℕ → ℤ) where
       image-box x h = in-box x (image-holds n q C (sideAt x) degrees h)
 
       -- ---- the ends of every box stand in order
-      image-ordered : (x : List Interval) → Ordered n (sideAt x) → Ordered n (sideAt (K x))
+      pub image-ordered : (x : List Interval) → Ordered n (sideAt x) → Ordered n (sideAt (K x))
       image-ordered x o i l = hold-order (image-box x (middle-in n (sideAt x) {d = pos 1} (omega zorder) o) .each i l)
 
       pub run-ordered : (a done : ℕ) (x : List Interval) → Ordered n (sideAt x) → Ordered n (sideAt (runOf n q C a done x .sides))
@@ -178,40 +206,3 @@ module _ (n : ℕ) (q : ℕ → Equation) (C : ℕ → ℕ → ℤ) where
             (λ m. absurd (false-true m (all-meet n x (K x) P (h .each) (image-zero x h .each))))
             (λ s. (image-zero x h, λ e. zero-one (cc))) (h, λ e. zero-one (cc))
             (λ m. run-keeps a (done + 1) (cut x) (cut-zero x h))
-
-    -- ---- the step that says unique
-    -- it begins on the box x, after t steps that decided nothing
-    pub record Deciding (start : List Interval) (o : Outcome) : Type 0 where
-      pub t : ℕ
-      pub x : List Interval
-      pub begins : runOf n q C t 0 start ≡ outcome Verdict.Spent t x
-      pub answer : o ≡ outcome Verdict.Unique (t + 1) (K x)
-      pub strictly : Strictly n (sideAt x) (imageOf n q C (sideAt x))
-
-    pub deciding : (a : ℕ) (start : List Interval) → runOf n q C a 0 start .verdict ≡ Verdict.Unique → Deciding start (runOf n q C a 0 start)
-    deciding zero start e = absurd (zero-one (cc (run-none 0 start)))
-    deciding (suc a) start e = ⊎-elim here (λ decided. stays decided (deciding a start)) (spent-or (runOf n q C a 0 start .verdict))
-      where
-        before : Outcome
-        before = runOf n q C a 0 start
-
-        y : List Interval
-        y = before .sides
-
-        same : (before .verdict ≡ Verdict.Spent → ⊥) → runOf n q C (suc a) 0 start ≡ before
-        same h = rw (← add-one a) (run-stays a 1 0 start h)
-
-        stays : (before .verdict ≡ Verdict.Spent → ⊥) → (before .verdict ≡ Verdict.Unique → Deciding start before)
-            → Deciding start (runOf n q C (suc a) 0 start)
-        stays h earlier = rw (same h) (earlier (verdict-of (sym (same h)) ∙ e))
-
-        here : before .verdict ≡ Verdict.Spent → Deciding start (runOf n q C (suc a) 0 start)
-        here v =
-            let last : runOf n q C (suc a) 0 start ≡ runOf n q C 1 a y = rw (← add-one a) (run-on a 1 0 start (whole-spent a start v)) in
-            rw last
-            (by-step y a (λ f. f 0 .verdict ≡ Verdict.Unique → Deciding start (f 0))
-            (λ m e. absurd (zero-one (cc)))
-            (λ s e. record { t = a; x = y; begins = whole-spent a start v; answer = refl; strictly = λ i l. rw (image-at n room q C y i l) at (s i l) })
-            (λ e. absurd (zero-one (cc)))
-            (λ m e. absurd (zero-one (cc (run-none (a + 1) (cut y)))))
-            (verdict-of (sym last) ∙ e))

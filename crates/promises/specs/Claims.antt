@@ -1,4 +1,4 @@
--- The words of demand 3: "A claim about fractions is proved as the claim about whole numbers that is left when every denominator is multiplied out, the
+-- The words of demands 2 and 3: "A claim about fractions is proved as the claim about whole numbers that is left when every denominator is multiplied out, the
 -- 65,536s and the edge widths included." Throughout n is the number of unknowns, q the equations and C the proposed inverse.
 use mathlib.Core.Path.{_≡_}
 use mathlib.Core.List.{List}
@@ -11,6 +11,7 @@ use Rattle.intervals.specs.Places.{sideAt}
 use Rattle.intervals.specs.Fraction.{Inside}
 use Rattle.systems.specs.Fractions.{InBox, DegreesIn, equationNum}
 use Rattle.run.specs.Newton.{newtonScale, newtonDen, newtonNum}
+use Rattle.run.specs.Meanings.{Empty, Strictly, Unchanged}
 use Rattle.run.specs.Run.{outcome, imageBox, runOf}
 use Rattle.intervals.specs.declared.Interval.{Interval}
 use Rattle.jobs.specs.declared.Equation.{Equation}
@@ -97,12 +98,34 @@ runWith s allowance = runOf (s .n) (s .equations) (s .inverse) allowance 0 (s .s
 abbrev pub Begins : (ℕ → Outcome) → ℕ → List Interval → Type 0
 Begins run t x = run t ≡ outcome Verdict.Spent t x
 
+-- one of the first a steps begins on a box of which P holds
+pub record Reaches (run : ℕ → Outcome) (a : ℕ) (P : List Interval → Type 0) : Type 0 where
+  pub t : ℕ
+  pub x : List Interval
+  pub within : t < a
+  pub begins : Begins run t x
+  pub holds : P x
+
+module _ (n : ℕ) (q : ℕ → Equation) (C : ℕ → ℕ → ℤ) (x : List Interval) where
+  -- "an empty intersection", of the box x and its image
+  abbrev pub EmptyOn : Type 0
+  EmptyOn = Empty n (sideAt x) (sideAt (imageBox n q C x))
+
+  -- "the image lies strictly inside" x
+  abbrev pub StrictlyOn : Type 0
+  StrictlyOn = Strictly n (sideAt x) (sideAt (imageBox n q C x))
+
+  -- the image cut with x is x itself
+  abbrev pub UnchangedOn : Type 0
+  UnchangedOn = Unchanged n (sideAt x) (sideAt (imageBox n q C x))
+
 -- an answer "unique", of a run that is told for each allowance: the deciding step and the box it began on
 pub record UniqueStep (n : ℕ) (q : ℕ → Equation) (C : ℕ → ℕ → ℤ) (run : ℕ → Outcome) (answer : Outcome) : Type 0 where
   pub t : ℕ
   pub x : List Interval
   pub begins : Begins run t x
   pub says : answer ≡ outcome Verdict.Unique (t + 1) (imageBox n q C x)
+  pub strictly : StrictlyOn n q C x
   pub edges : (k : ℕ) → k < n → pos 2 ≤ℤ widthOf (sideAt x) k
   pub closer : (p r : Point) → Lies n p x → Lies n r x → (Same n p r → ⊥) → Closer n q C x p r
   pub sharper : Sharper n q C (sideAt x)

@@ -4,9 +4,10 @@ use mathlib.Core.Bool.{Bool, true, false}
 use mathlib.Core.List.{List}
 use Prim.Native.Nat.{ℕ, _≤_, _<_}
 use lib.IntN.{ℤ}
-use lib.Signed.{_≤ℤ_, _<ℤ_, ltZ}
+use lib.Signed.{_≤ℤ_, ltZ}
 use Rattle.sizes.specs.Sizes.{nMax}
 use Rattle.lists.proofs.All.{all-each, both-fst, both-snd}
+use Rattle.integers.proofs.Parts.{zorder}
 use Rattle.integers.proofs.Order.{ltZ-true}
 use Rattle.intervals.specs.Interval.{meetsI, insideI, cutI}
 use Rattle.intervals.specs.Places.{sideAt}
@@ -15,27 +16,28 @@ use Rattle.intervals.proofs.Places.{side-made}
 use Rattle.intervals.proofs.Meeting.{cut-order, hold-meets}
 use Rattle.jobs.proofs.RangeLaws.{each-all}
 use Rattle.intervals.specs.declared.Interval.{Interval}
+use Rattle.jobs.specs.declared.Equation.{Equation}
 use Rattle.run.specs.declared.Move.{Move}
+use Rattle.run.specs.Meanings.{Strictly}
 use Rattle.run.specs.Decide.{allMeet, allInside, cutSame, cutBox, decision, decideOf}
+use Rattle.run.specs.Run.{imageBox, stepOf}
 use Rattle.intervals.proofs.Meeting as intervals
-
--- "X low < K low and K high < X high"
-abbrev pub Strictly : ℕ → (ℕ → Interval) → (ℕ → Interval) → Type 0
-Strictly n X K = (i : ℕ) → i < n → (X i .lo <ℤ K i .lo) × (K i .hi <ℤ X i .hi)
 
 module _ (n : ℕ) (x k : List Interval) where
   -- the decision, with what its tests found
   pub data Decided : Type 0 where
     none : decideOf n x k ≡ decision Move.None x → allMeet n x k ≡ false → Decided
     unique : decideOf n x k ≡ decision Move.Unique k → Strictly n (sideAt x) (sideAt k) → Decided
-    stalled : decideOf n x k ≡ decision Move.Stalled x → Decided
+    stalled : decideOf n x k ≡ decision Move.Stalled x → cutSame n x k ≡ true → Decided
     next : decideOf n x k ≡ decision Move.Next (cutBox n x k) → allMeet n x k ≡ true → Decided
 
   inside-strictly : allInside n x k ≡ true → Strictly n (sideAt x) (sideAt k)
   unfolding allInside insideI
   inside-strictly e i l =
       let t = all-each (λ i. insideI (sideAt x i) (sideAt k i)) n i l e in
-      (ltZ-true _ _ (both-fst (ltZ (sideAt x i .lo) (sideAt k i .lo)) _ t), ltZ-true _ _ (both-snd (ltZ (sideAt x i .lo) (sideAt k i .lo)) _ t))
+      let low = ltZ-true (sideAt x i .lo) (sideAt k i .lo) (both-fst (ltZ (sideAt x i .lo) (sideAt k i .lo)) _ t) in
+      let high = ltZ-true (sideAt k i .hi) (sideAt x i .hi) (both-snd (ltZ (sideAt x i .lo) (sideAt k i .lo)) _ t) in
+      (omega (zorder, low), omega (zorder, high))
 
   pub decided : Decided
   unfolding decideOf
@@ -44,7 +46,7 @@ module _ (n : ℕ) (x k : List Interval) where
       by : (m : Bool) → allMeet n x k ≡ m → (s : Bool) → allInside n x k ≡ s → (t : Bool) → cutSame n x k ≡ t → Decided
       by false m s i t e = none (rw m) m
       by true m true i t e = unique (rw (m, i)) (inside-strictly i)
-      by true m false i true e = stalled (rw (m, i, e))
+      by true m false i true e = stalled (rw (m, i, e)) e
       by true m false i false e = next (rw (m, i, e)) m
 
   -- a fraction point in both boxes: they meet
@@ -66,3 +68,8 @@ module _ (n : ℕ) (x k : List Interval) where
         → sideAt (cutBox n x k) i .lo ≤ℤ sideAt (cutBox n x k) i .hi
     unfolding allMeet
     cut-ordered e i l a b = rw (cut-at i l) (cut-order _ _ a b (all-each (λ i. meetsI (sideAt x i) (sideAt k i)) n i l e))
+
+-- a step decides by the image of its box
+pub step-is : (n : ℕ) (q : ℕ → Equation) (C : ℕ → ℕ → ℤ) (x : List Interval) → stepOf n q C x ≡ decideOf n x (imageBox n q C x)
+unfolding stepOf
+step-is n q C x = refl

@@ -36,6 +36,7 @@ use Rattle.run.specs.Run.{settle, imageBox, stepOf, runOf}
 use Rattle.run.specs.Job.{startSide, startOf, inverseOf, outcomeOf, resultOf, runJob}
 use Rattle.run.specs.Ranges.{StepIn}
 use Rattle.run.proofs.Live.{sum-of}
+use Rattle.run.proofs.Decisions.{step-is}
 
 equation-in : (n : ℕ) (q : Equation) → GoodEquation q n → EquationIn n q
 equation-in n q g = record { count = g .few; each = λ t l. record { coef = g .size t l; deg = g .deg t l } }
@@ -68,8 +69,8 @@ module _ (n : ℕ) {q r : ℕ → Equation} {C D : ℕ → ℕ → ℤ}
       (λ k _. refl))
 
   step-cong : (x : List Interval) → stepOf n q C x ≡ stepOf n r D x
-  unfolding stepOf imageBox
-  step-cong x = ap (decideOf n x) (tab-cong zeroI nMax n _ _ (image-cong (sideAt x)))
+  unfolding imageBox
+  step-cong x = rw (step-is n q C x, step-is n r D x) (ap (decideOf n x) (tab-cong zeroI nMax n _ _ (image-cong (sideAt x))))
 
   run-cong : (allowance done : ℕ) (x : List Interval) → runOf n q C allowance done x ≡ runOf n r D allowance done x
   unfolding runOf

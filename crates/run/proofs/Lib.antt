@@ -7,3 +7,4 @@ pub mod JobLaws
 pub mod Newton
 pub mod Hold
 pub mod Decisions
+pub mod Exactly

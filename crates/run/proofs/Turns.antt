@@ -16,10 +16,11 @@ use Rattle.run.specs.declared.Decision.{Decision}
 use Rattle.run.specs.declared.Outcome.{Outcome}
 use Rattle.run.specs.Step.{imageOf}
 use Rattle.run.specs.Decide.{decideOf}
-use Rattle.run.specs.Run.{outcome, settle, imageBox, stepOf, runOf}
+use Rattle.run.specs.Run.{outcome, settle, imageBox, runOf}
 use Rattle.run.specs.Ranges.{StepIn}
 use Rattle.run.proofs.Image.{image-in}
 use Rattle.run.proofs.Keep.{next-in}
+use Rattle.run.proofs.Decisions.{step-is}
 
 module _ (n : ℕ) (q : ℕ → Equation) (C : ℕ → ℕ → ℤ) where
   -- the run after `done` of `allowance` steps, at the decision of the next one
@@ -28,10 +29,10 @@ module _ (n : ℕ) (q : ℕ → Equation) (C : ℕ → ℕ → ℤ) where
 
   pub run-turn : (allowance done : ℕ) (x : List Interval) {k : List Interval} {d : Decision} {o : Outcome} → done < allowance
       → k ≡ imageBox n q C x → d ≡ decideOf n x k → runOf n q C (allowance - done) done x ≡ o → o ≡ turned allowance done d
-  unfolding runOf stepOf
+  unfolding runOf
   run-turn allowance done x {d = d} l e g h =
       let s : allowance - done ≡ suc (allowance - (done + 1)) = omega arith in
-      sym h ∙ rw s (ap (turned allowance done) (sym (rw e at g)))
+      sym h ∙ rw s (ap (turned allowance done) (step-is n q C x ∙ sym (rw e at g)))
 
   pub run-end : (allowance done : ℕ) (x : List Interval) → allowance ≤ done → runOf n q C (allowance - done) done x ≡ outcome Verdict.Spent done x
   unfolding runOf

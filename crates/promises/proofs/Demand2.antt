@@ -1,0 +1,120 @@
+-- Demand 2, of every accepted job of the three kinds, "whatever inverse was proposed", and of both texts. Only statements, each proved by one line from the
+-- files beside this one and the crates of the texts. `jobRun j a` is the run of the job j with the allowance a, by the definitions that the contracts cite.
+use mathlib.Core.Path.{_≡_}
+use mathlib.Core.List.{List}
+use mathlib.Core.Logic.{_↔_}
+use Prim.Native.Nat.{ℕ, _+_}
+use lib.ListN.{length}
+use Rattle.sizes.specs.Sizes.{nMax}
+use Rattle.intervals.specs.declared.Interval.{Interval}
+use Rattle.jobs.specs.declared.Job.{Job}
+use Rattle.jobs.specs.declared.Result.{Result}
+use Rattle.jobs.specs.declared.Status.{Status}
+use Rattle.jobs.specs.declared.Verdict.{Verdict}
+use Rattle.jobs.specs.Checks.{checkJob}
+use Rattle.jobs.specs.CheckResult.{checkResult}
+use Rattle.jobs.specs.Accepted.{Accepted}
+use Rattle.jobs.proofs.AcceptedLaws.{check-done}
+use Rattle.systems.specs.Kinds.{equationOf}
+use Rattle.run.specs.declared.Move.{Move}
+use Rattle.run.specs.Run.{outcome, imageBox, stepOf}
+use Rattle.run.specs.Job.{inverseOf, resultOf, runJob}
+use Rattle.jobtext.specs.JobText.{readJob}
+use Rattle.jobwrite.specs.ShowJob.{jobBytes}
+use Rattle.jobround.specs.Live.{Arrays}
+use Rattle.resulttext.specs.ResultText.{readResult}
+use Rattle.resultwrite.specs.Show.{showResult}
+use Rattle.promises.specs.Claims.{System, Begins, Reaches, EmptyOn, StrictlyOn, UnchangedOn}
+use Rattle.promises.specs.Jobs.{jobRun}
+use Rattle.promises.proofs.Jobs.{systemOf}
+use Rattle.jobround.specs.Live as job
+use Rattle.jobround.proofs.WriteBack as job-text
+use Rattle.jobround.proofs.ReadBack as job-values
+use Rattle.resultround.specs.Live as result
+use Rattle.resultround.proofs.WriteBack as result-text
+use Rattle.resultround.proofs.ReadBack as result-values
+use Rattle.promises.proofs.Verdicts as verdicts
+use Rattle.promises.proofs.Demand3 as demand3
+
+module _ (j : Job) (checked : checkJob j ≡ Status.Done) where
+  accepted : Accepted j
+  accepted = check-done j checked
+
+  abbrev s : System
+  s = systemOf j accepted
+
+  -- the image of the box x, and what the step on x decides
+  abbrev image : List Interval → List Interval
+  image = imageBox (j .n) (equationOf j) (inverseOf j)
+
+  abbrev decides : List Interval → Move
+  decides x = stepOf (j .n) (equationOf j) (inverseOf j) x .what
+
+  -- what document 01 asks of the box x and its image before "none", "unique" and "stalled"
+  abbrev Misses : List Interval → Type 0
+  Misses = EmptyOn (j .n) (equationOf j) (inverseOf j)
+
+  abbrev Contains : List Interval → Type 0
+  Contains = StrictlyOn (j .n) (equationOf j) (inverseOf j)
+
+  abbrev Stays : List Interval → Type 0
+  Stays = UnchangedOn (j .n) (equationOf j) (inverseOf j)
+
+  -- box, verdict and step count are the definitions': the public entry answers the job's run with its own allowance (`entry` of Demand3: with any)
+  pub answers : runJob j ≡ record { status = Status.Done; result = resultOf j (jobRun j (j .steps)) }
+  answers = demand3.entry j checked (j .steps) (accepted .steps)
+
+  -- ""none" comes exactly on an empty intersection,": of every box that a step begins on,
+  pub none-step : {t : ℕ} {x : List Interval} → Begins (jobRun j) t x → (decides x ≡ Move.None) ↔ Misses x
+  none-step {x = x} b = verdicts.step-none s x
+
+  -- and so of the run's answer, which then has that box and counts that step;
+  pub none-exactly : (a : ℕ) → (jobRun j a .verdict ≡ Verdict.None) ↔ Reaches (jobRun j) a Misses
+  none-exactly = verdicts.none-reached s
+
+  pub none-answer : (a : ℕ) (r : Reaches (jobRun j) a Misses) → jobRun j a ≡ outcome Verdict.None (r .t + 1) (r .x)
+  none-answer = verdicts.none-answer s
+
+  -- ""unique" exactly when the image lies strictly inside,": the same, and the answer's box is the image
+  pub unique-step : {t : ℕ} {x : List Interval} → Begins (jobRun j) t x → (decides x ≡ Move.Unique) ↔ Contains x
+  unique-step b = verdicts.step-unique s b
+
+  pub unique-exactly : (a : ℕ) → (jobRun j a .verdict ≡ Verdict.Unique) ↔ Reaches (jobRun j) a Contains
+  unique-exactly = verdicts.unique-reached s
+
+  pub unique-answer : (a : ℕ) (r : Reaches (jobRun j) a Contains) → jobRun j a ≡ outcome Verdict.Unique (r .t + 1) (image (r .x))
+  unique-answer = verdicts.unique-answer s
+
+  -- "K cut with X is X itself: verdict stalled, box X"
+  pub stalled-step : {t : ℕ} {x : List Interval} → Begins (jobRun j) t x → (decides x ≡ Move.Stalled) ↔ Stays x
+  stalled-step b = verdicts.step-stalled s (accepted .some) b
+
+  pub stalled-exactly : (a : ℕ) → (jobRun j a .verdict ≡ Verdict.Stalled) ↔ Reaches (jobRun j) a Stays
+  stalled-exactly = verdicts.stalled-reached s (accepted .some)
+
+  pub stalled-answer : (a : ℕ) (r : Reaches (jobRun j) a Stays) → jobRun j a ≡ outcome Verdict.Stalled (r .t + 1) (r .x)
+  stalled-answer = verdicts.stalled-answer s (accepted .some)
+
+  -- "If the allowance is used up with none of the three reached, the verdict is spent with the box so far", and the whole allowance is counted.
+  pub spent-exactly : (a : ℕ) → (jobRun j a .verdict ≡ Verdict.Spent)
+      ↔ ((Reaches (jobRun j) a Misses → ⊥) × ((Reaches (jobRun j) a Contains → ⊥) × (Reaches (jobRun j) a Stays → ⊥)))
+  spent-exactly = verdicts.spent-reached s (accepted .some)
+
+  pub spent-answer : (a : ℕ) → jobRun j a .verdict ≡ Verdict.Spent → Begins (jobRun j) a (jobRun j a .sides)
+  spent-answer = verdicts.spent-begins s
+
+  -- "Values to text to values gives the same values in the live places", of a job
+  pub job-values-back : Arrays j → readJob (jobBytes j) ≡ record { status = Status.Done; job = job.live j }
+  job-values-back = job-values.read-write j checked
+
+-- and of a result, for the arrays of N places that a program hands over
+pub result-values-back : (r : Result) → checkResult r ≡ Status.Done → length (r .lo) ≡ nMax → length (r .hi) ≡ nMax
+    → readResult (showResult r) ≡ record { status = Status.Done; result = result.live r }
+result-values-back = result-values.read-write
+
+-- "Text to values to text gives the same bytes."
+pub job-text-back : (t : List ℕ) (j : Job) → readJob t ≡ record { status = Status.Done; job = j } → jobBytes j ≡ t
+job-text-back = job-text.write-read
+
+pub result-text-back : (t : List ℕ) (r : Result) → readResult t ≡ record { status = Status.Done; result = r } → showResult r ≡ t
+result-text-back = result-text.write-read
