@@ -2,6 +2,7 @@
 use mathlib.Core.Path.{_≡_, sym, ap, _∙_}
 use mathlib.Core.List.{List}
 use Prim.Native.Nat.{ℕ, suc, _+_, _-_, _<_, _≤_}
+use native.Mathlib.Nat.{le-antisymm}
 use native.Mathlib.Omega.{arith}
 use lib.IntN.{ℤ}
 use lib.Signed.{_≤ℤ_}
@@ -34,9 +35,12 @@ module _ (n : ℕ) (q : ℕ → Equation) (C : ℕ → ℕ → ℤ) where
       let s : allowance - done ≡ suc (allowance - (done + 1)) = omega arith in
       sym h ∙ rw s (ap (turned allowance done) (step-is n q C x ∙ sym (rw e at g)))
 
-  pub run-end : (allowance done : ℕ) (x : List Interval) → allowance ≤ done → runOf n q C (allowance - done) done x ≡ outcome Verdict.Spent done x
+  pub run-end : (allowance done : ℕ) (x : List Interval) → done ≤ allowance → allowance ≤ done
+      → runOf n q C (allowance - done) done x ≡ outcome Verdict.Spent allowance x
   unfolding runOf
-  run-end allowance done x l = let e : allowance - done ≡ 0 = omega arith in rw e
+  run-end allowance done x h l =
+      let e : allowance - done ≡ 0 = omega arith in
+      rw (e, le-antisymm h l)
 
 module _ {n : ℕ} {q : ℕ → Equation} {C : ℕ → ℕ → ℤ} where
   -- the box of the next step

@@ -67,21 +67,20 @@ pub fn run_steps(
     ensures { λ r. ⌜ r ≡ runOf n (equationAt eqs) (entryAt c) allowance 0 start ⌝ }
 {
     let mut x = start;
-    let mut done: u64 = 0;
-    while done < allowance {
+    for done in 0..allowance {
         let k = step::image(eqs, c, x, n);
         let d = step::decide(x, k, n);
         let what = d.what;
         let next = d.sides;
-        done += 1;
+        let steps = done + 1;
         match what {
-            Move::None => return ended(Verdict::None, done, next),
-            Move::Unique => return ended(Verdict::Unique, done, next),
-            Move::Stalled => return ended(Verdict::Stalled, done, next),
+            Move::None => return ended(Verdict::None, steps, next),
+            Move::Unique => return ended(Verdict::Unique, steps, next),
+            Move::Stalled => return ended(Verdict::Stalled, steps, next),
             Move::Next => x = next,
         }
     }
-    ended(Verdict::Spent, done, x)
+    ended(Verdict::Spent, allowance, x)
 }
 
 // The result of a job whose values are right.

@@ -29,8 +29,8 @@ image-requires c κs = c .before .loop .inv .1 .0
 decide-requires : tie.Need-decide-requires Inv-loop μ-loop
 decide-requires c κs = c .before .before .loop .inv .1 .0 .box .places
 
-add-done : tie.Need-add-done Inv-loop μ-loop
-add-done c = omega arith
+add-steps : tie.Need-add-steps Inv-loop μ-loop
+add-steps c = omega arith
 
 -- the whole run, at the decision of a turn
 decided : (c : tie.After-decide Inv-loop μ-loop) → let s = c .before .before .before .before .args in
@@ -39,7 +39,7 @@ decided : (c : tie.After-decide Inv-loop μ-loop) → let s = c .before .before 
 decided c =
     let l = c .before .before .before .loop in
     let s = c .before .before .before .before .args in
-    run-turn _ _ _ (s .allowance) (l .done) (l .x) (c .before .before .loop-test .taken) (c .before .image .ensures) (c .decide .ensures) (l .inv .1 .1)
+    run-turn _ _ _ (s .allowance) (l .done) (l .x) (omega arith) (c .before .image .ensures) (c .decide .ensures) (l .inv .1 .1)
 
 enum-told : tie.Need-enum-told Inv-loop μ-loop
 enum-told c = search needs
@@ -71,6 +71,9 @@ returns-3 c = c .ended3 .ensures ∙ sym (rw (c .before .enum-told3 .given .1) a
 enum-told-4 : tie.Need-enum-told-4 Inv-loop μ-loop
 enum-told-4 c = search needs
 
+add-done : tie.Need-add-done Inv-loop μ-loop
+add-done c = omega arith
+
 loop-less : tie.Need-loop-less Inv-loop μ-loop
 loop-less c = omega arith
 
@@ -87,7 +90,9 @@ ended-requires-4 : tie.Need-ended-requires-4 Inv-loop μ-loop
 ended-requires-4 c κs = search needs
 
 returns-4 : tie.Need-returns-4 Inv-loop μ-loop
-returns-4 c = c .ended4 .ensures ∙ sym (sym (c .before .before .loop .inv .1 .1) ∙ run-end _ _ _ _ _ _ (c .before .loop-test .left))
+returns-4 c =
+    let l = c .before .before .loop in
+    c .ended4 .ensures ∙ sym (sym (l .inv .1 .1) ∙ run-end _ _ _ _ _ _ (l .inv .0) (omega arith))
 
 pub run-steps-spec : {M : Type 1} → statement M
 run-steps-spec =
@@ -98,7 +103,7 @@ run-steps-spec =
     loop-holds
     image-requires
     decide-requires
-    add-done
+    add-steps
     enum-told
     ended-requires
     returns
@@ -109,6 +114,7 @@ run-steps-spec =
     ended-requires-3
     returns-3
     enum-told-4
+    add-done
     loop-less
     loop-again
     ended-requires-4
