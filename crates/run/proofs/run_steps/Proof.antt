@@ -23,6 +23,16 @@ abbrev μ-loop : tie.MeasureT-loop
 loop-holds : tie.Need-loop-holds Inv-loop μ-loop
 loop-holds c = (omega arith, (c .pre, rw sub-zero))
 
+-- the allowance is used up
+ended-requires-4 : tie.Need-ended-requires-4 Inv-loop μ-loop
+ended-requires-4 c κs = search needs
+
+returns-4 : tie.Need-returns-4 Inv-loop μ-loop
+returns-4 c =
+    let l = c .before .before .loop in
+    c .ended4 .ensures ∙ sym (sym (l .inv .1 .1) ∙ run-end _ _ _ _ _ _ (l .inv .0) (omega arith))
+
+-- ---- a turn
 image-requires : tie.Need-image-requires Inv-loop μ-loop
 image-requires c κs = c .before .loop .inv .1 .0
 
@@ -85,14 +95,6 @@ loop-again c =
       omega arith,
       (record { system = l .inv .1 .0 .system; inverse = l .inv .1 .0 .inverse; box = box }, sym (rw (c .enum-told4 .given .1) at (decided d))),
     )
-
-ended-requires-4 : tie.Need-ended-requires-4 Inv-loop μ-loop
-ended-requires-4 c κs = search needs
-
-returns-4 : tie.Need-returns-4 Inv-loop μ-loop
-returns-4 c =
-    let l = c .before .before .loop in
-    c .ended4 .ensures ∙ sym (sym (l .inv .1 .1) ∙ run-end _ _ _ _ _ _ (l .inv .0) (omega arith))
 
 pub run-steps-spec : {M : Type 1} → statement M
 run-steps-spec =
