@@ -1,19 +1,19 @@
--- The language's `/` and `%` cut toward zero: how they give the division rounded down and up.
+-- The language's `/` and `%` cut toward zero: how they give the division rounded down.
 use mathlib.Core.Path.{_≡_, refl}
 use mathlib.Core.Bool.{true, false}
 use Prim.Native.Nat.{ℕ, zero, suc, _/_, _%_, _≤_, _<_}
 use native.Mathlib.Nat.{div-add-mod, mod-lt}
-use lib.IntN.{ℤ, pos, negsuc, negℤ, natAbs, _+ℤ_, _-ℤ_}
+use lib.IntN.{ℤ, pos, negsuc, negℤ, natAbs, _-ℤ_}
 use lib.Signed.{_≤ℤ_, _<ℤ_, ltZ, quotZ, remZ, shrZ, mag-rem, mag-shr}
 use mir.Syntax.{Width}
 use mir.Val.{SFits}
 use mir.ValLaws.{sfits-le}
-use Rattle.integers.specs.Rounding.{floorBy, ceilBy}
+use Rattle.integers.specs.Rounding.{floorBy}
 use Rattle.integers.specs.Ranges.{Within}
 use Rattle.integers.proofs.Parts.{zorder, neg-P, neg-N}
 use Rattle.integers.proofs.Linear.{zlin}
 use Rattle.integers.proofs.Order.{ltZ-true, ltZ-false}
-use Rattle.integers.proofs.Rounding.{floor-mono, floor-unique, ceil-unique}
+use Rattle.integers.proofs.Rounding.{floor-mono, floor-unique}
 
 module _ (m : ℕ) (h : 0 < m) where
   -- rounded down: one less where the remainder is negative
@@ -38,30 +38,6 @@ module _ (m : ℕ) (h : 0 < m) where
     where
       k : pos 0 ≤ℤ negℤ (pos (suc a % m))
       k = ltZ-false (negℤ (pos (suc a % m))) (pos 0) e
-
-  -- rounded up: one more where the remainder is positive
-  pub rem-pos : (x : ℤ) → ltZ (pos 0) (remZ x (pos m)) ≡ true → quotZ x (pos m) +ℤ pos 1 ≡ ceilBy m x
-  rem-pos (pos a) e = ceil-unique m h (pos (a / m) +ℤ pos 1) (pos a)
-      (simp zlin (omega (zorder, div-add-mod a m, mod-lt a h)))
-      (simp zlin (omega (zorder, div-add-mod a m, k)))
-    where
-      k : pos 0 <ℤ pos (a % m)
-      k = ltZ-true (pos 0) (pos (a % m)) e
-  rem-pos (negsuc a) e = absurd (no (suc a % m) (ltZ-true (pos 0) (negℤ (pos (suc a % m))) e))
-    where
-      no : (r : ℕ) → pos 0 <ℤ negℤ (pos r) → ⊥
-      no r k = omega (zorder, neg-P (pos r), neg-N (pos r))
-
-  pub rem-nonpos : (x : ℤ) → ltZ (pos 0) (remZ x (pos m)) ≡ false → quotZ x (pos m) ≡ ceilBy m x
-  rem-nonpos (pos a) e = ceil-unique m h (pos (a / m)) (pos a)
-      (simp zlin (omega (zorder, div-add-mod a m, k)))
-      (simp zlin (omega (zorder, div-add-mod a m, h)))
-    where
-      k : pos (a % m) ≤ℤ pos 0
-      k = ltZ-false (pos 0) (pos (a % m)) e
-  rem-nonpos (negsuc a) e = ceil-unique m h (negℤ (pos (suc a / m))) (negsuc a)
-      (simp zlin (omega (zorder, div-add-mod (suc a) m, neg-P (pos (suc a / m)), neg-N (pos (suc a / m)))))
-      (simp zlin (omega (zorder, div-add-mod (suc a) m, mod-lt (suc a) h, neg-P (pos (suc a / m)), neg-N (pos (suc a / m)))))
 
 abs-neg-pos : (n : ℕ) → natAbs (negℤ (pos n)) ≡ n
 abs-neg-pos zero = refl

@@ -20,7 +20,7 @@ use Rattle.integers.proofs.Rounding.{floor-mono, floor≤ceil, floor-within, ce
 use Rattle.lists.specs.Loops.{carry}
 use Rattle.intervals.specs.declared.Interval.{Interval}
 use Rattle.intervals.specs.Interval.{mark, zeroI, pointI, addI, negI, sumI, scaleI, wideI, outI, mulI, midI, cutI, meetsI}
-use Rattle.intervals.specs.Ranges.{FitsAdd, FitsNeg, FitsScale, FitsMid, FitsMul, InI}
+use Rattle.intervals.specs.Ranges.{FitsAdd, FitsNeg, FitsScale, FitsMid, FitsMul, FitsTimes, InI, upMax}
 use Rattle.intervals.proofs.Division.{some}
 use Rattle.intervals.proofs.Meeting.{cut-inside, cut-order}
 
@@ -121,3 +121,9 @@ fits-mul l h k = record {
   hl = small l (within-mul (h .high) (k .low));
   hh = small l (within-mul (h .high) (k .high));
 }
+
+pub up-within : {A : ℕ} {a : Interval} → A ≤ upMax → InI A a → Within (a .hi) upMax
+up-within l h = record { abs = le-trans (h .high .abs) l }
+
+pub fits-times : {A B : ℕ} {a b : Interval} → A * B ≤ upMax → InI A a → InI B b → FitsTimes a b
+fits-times l h k = record { exact = fits-mul (omega arith) h k; up = up-within l (in-wide h k) }

@@ -2,13 +2,15 @@
 ghost use mathlib.Core.Path.{_≡_};
 ghost use Rattle.integers.specs.Rounding.{floorBy, ceilBy};
 ghost use Rattle.integers.specs.Least.{minℤ, maxℤ, min4, max4};
+ghost use Rattle.integers.specs.Ranges.{Within};
 ghost use Rattle.intervals.specs.Interval.{mark, pointI, addI, negI, scaleI, wideI, outI, mulI, midI, cutI, meetsI, insideI, sameI};
-ghost use Rattle.intervals.specs.Ranges.{FitsAdd, FitsNeg, FitsScale, FitsMul, FitsMid};
+ghost use Rattle.intervals.specs.Ranges.{FitsAdd, FitsNeg, FitsScale, FitsMul, FitsTimes, FitsMid, upMax};
 
-// "one mark is 1/65,536": a division by it is a shift by so many places.
-const SHIFT: i64 = 16;
+// "one mark is 1/65,536"
+pub const MARK: i64 = 65536;
 
-pub const MARK: i64 = 1 << SHIFT;
+// One short of a mark.
+const REST: i64 = MARK - 1;
 
 // [lo, hi], in marks.
 pub struct Interval {
@@ -16,19 +18,21 @@ pub struct Interval {
     pub hi: i64,
 }
 
-// The shift rounds down, on negative numbers too; the language's division would cut toward zero.
+// The language's division cuts toward zero: with a remainder below zero that is one too much.
 pub fn floor_div(x: i64) -> i64
     ensures { λ r. ⌜ r ≡ floorBy mark x ⌝ }
 {
-    x >> SHIFT
+    let q = x / MARK;
+    let r = x % MARK;
+    if r < 0 { q - 1 } else { q }
 }
 
-// Where something is left over, the quotient rounded down is one too little.
+// What is left over of x and one short of a mark make a mark more; a whole x stays below the next one.
 pub fn ceil_div(x: i64) -> i64
+    requires { ⌜ Within x upMax ⌝ }
     ensures { λ r. ⌜ r ≡ ceilBy mark x ⌝ }
 {
-    let q = floor_div(x);
-    if x % MARK == 0 { q } else { q + 1 }
+    floor_div(x + REST)
 }
 
 pub fn least(a: i64, b: i64) -> i64
@@ -124,6 +128,7 @@ pub fn mul_point(c: i64, x: Interval) -> Interval
 
 // One outward rounding to marks.
 pub fn outward(a: Interval) -> Interval
+    requires { ⌜ Within (a .hi) upMax ⌝ }
     ensures { λ r. ⌜ r ≡ outI a ⌝ }
 {
     let l = a.lo;
@@ -134,7 +139,7 @@ pub fn outward(a: Interval) -> Interval
 }
 
 pub fn times(a: Interval, b: Interval) -> Interval
-    requires { ⌜ FitsMul a b ⌝ }
+    requires { ⌜ FitsTimes a b ⌝ }
     ensures { λ r. ⌜ r ≡ mulI a b ⌝ }
 {
     outward(mul_wide(a, b))

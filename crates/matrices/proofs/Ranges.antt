@@ -1,7 +1,7 @@
 -- Every sum of products fits, and how large D, B and E can be.
 use mathlib.Core.Path.{_≡_, ap, _∙_}
 use mathlib.Core.Bool.{Bool, true, false, cond}
-use Prim.Native.Nat.{ℕ, _+_, _*_, _^_, _<_, zero-le}
+use Prim.Native.Nat.{ℕ, _+_, _*_, _^_, _<_, _≤_, zero-le}
 use native.Mathlib.Omega.{arith}
 use native.Mathlib.Nat.{le-refl, mul-le-mul-right, suc-mul}
 use lib.Dec.{eqb}
@@ -12,9 +12,10 @@ use mir.Val.{toZ, ofZ}
 use Rattle.sizes.specs.Sizes.{entryMax}
 use Rattle.integers.specs.Ranges.{Within}
 use Rattle.integers.proofs.Machine.{back, ok}
-use Rattle.intervals.specs.Interval.{mark, pointI, negI, wideI}
-use Rattle.intervals.specs.Ranges.{FitsAdd, FitsNeg, FitsMul, InI}
-use Rattle.intervals.proofs.Ranges.{in-point, in-add, in-neg, in-wide, in-out, in-sum, fits-add, fits-neg, fits-mul}
+use Rattle.intervals.specs.Interval.{mark, pointI, addI, negI, wideI}
+use Rattle.intervals.specs.Ranges.{FitsAdd, FitsNeg, FitsMul, InI, upMax}
+use Rattle.intervals.proofs.Ranges.{in-point, in-add, in-neg, in-wide, in-out, in-sum, up-within}
+use Rattle.intervals.proofs.Ranges.{fits-add, fits-neg, fits-mul}
 use Rattle.sizes.specs.Bounds.{valueMax, slopeMax}
 use Rattle.intervals.specs.declared.Interval.{Interval}
 use Rattle.matrices.specs.Products.{dotI, unitZ, entryB, dOf, bOf, eOf}
@@ -31,12 +32,12 @@ pub record DotIn (n : ℕ) (a b : ℕ → Interval) : Type 0 where
   pub right : ℕ
   pub lefts : (k : ℕ) → k < n → InI left (a k)
   pub rights : (k : ℕ) → k < n → InI right (b k)
-  pub sum : n * (left * right) < 2 ^ 63
+  pub sum : n * (left * right) ≤ upMax
 
 -- its loop
 module _ {n : ℕ} {a b : ℕ → Interval} (h : DotIn n a b) where
   -- with place j there are at most n products
-  part : (j P : ℕ) → j < n → n * P < 2 ^ 63 → j * P + P < 2 ^ 63
+  part : (j P : ℕ) → j < n → n * P ≤ upMax → j * P + P < 2 ^ 63
   part j P l s = omega (arith, mul-le-mul-right P l, suc-mul j P)
 
   pub product-fits : (j : ℕ) → j < n → FitsMul (a j) (b j)
@@ -46,6 +47,9 @@ module _ {n : ℕ} {a b : ℕ → Interval} (h : DotIn n a b) where
   more-fits j l e q = rw (e, q) (fits-add (part j (h .left * h .right) l (h .sum))
       (in-dot j (h .left) (h .right) (λ k m. h .lefts k (omega arith)) (λ k m. h .rights k (omega arith)))
       (in-wide (h .lefts j l) (h .rights j l)))
+
+  pub round-fits : {s : Interval} → s ≡ dotI n a b → Within (s .hi) upMax
+  round-fits e = rw e (up-within (h .sum) (in-dot n (h .left) (h .right) (h .lefts) (h .rights)))
 
 -- a number that is read from an array, as a factor
 pub read-fits : {z : ℤ} {x : Interval} → mag z < 2 ^ 63 → FitsMul (pointI z) x → FitsMul (pointI (toZ w64 (ofZ w64 z))) x
@@ -90,6 +94,10 @@ module _ {n : ℕ} {C : ℕ → ℕ → ℤ} {S : ℕ → ℕ → Interval} (h :
 
   pub rest-fits : {u t : Interval} → u ≡ pointI (unitZ i j) → t ≡ negI (dotI n (λ k. pointI (C i k)) (λ k. S k j)) → FitsAdd u t
   rest-fits e q = rw (e, q) (fits-add (omega (arith, h .room)) (in-point (unit-within i j)) (in-neg product-in))
+
+  pub round-rest : {s : Interval}
+      → s ≡ addI (pointI (unitZ i j)) (negI (dotI n (λ k. pointI (C i k)) (λ k. S k j))) → Within (s .hi) upMax
+  round-rest e = rw e (up-within (omega (arith, h .room)) (in-add (in-point (unit-within i j)) (in-neg product-in)))
 
   pub in-b : InI bMax (bOf n C S i j)
   unfolding bOf entryB

@@ -12,8 +12,8 @@ use lib.ListN.{getD}
 use Rattle.sizes.specs.Sizes.{termsMax, endMax, entryMax, degreeMax}
 use Rattle.lists.specs.Loops.{carry}
 use Rattle.intervals.specs.Interval.{sumI}
-use Rattle.intervals.specs.Ranges.{InI, FitsAdd, FitsMul, FitsScale}
-use Rattle.intervals.proofs.Ranges.{in-zero, in-point, in-more, in-mul, in-scale, in-sum, fits-add, fits-mul, fits-scale}
+use Rattle.intervals.specs.Ranges.{InI, FitsAdd, FitsTimes, FitsScale}
+use Rattle.intervals.proofs.Ranges.{in-zero, in-point, in-more, in-mul, in-scale, in-sum, fits-add, fits-times, fits-scale}
 use Rattle.intervals.specs.Places.{sideAt}
 use Rattle.jobs.specs.Terms.{degree}
 use Rattle.sizes.specs.Bounds.{termMax, loweredMax, valueMax, partMax, slopeMax}
@@ -53,8 +53,8 @@ in-factor zero h k = h
 in-factor (suc e) h k = in-mul _ (omega arith) (in-factor e h k) k
 
 -- what each product of a factor asks
-pub factor-fits : {e : ℕ} {a x : Interval} → FactorIn e a x → (i : ℕ) → i ≤ e → FitsMul (factorI i a x) x
-factor-fits {e} p i l = fits-mul (omega (arith, grow-mono i e (p .size) l, p .room)) (in-factor i (p .start) (p .unknown)) (p .unknown)
+pub factor-fits : {e : ℕ} {a x : Interval} → FactorIn e a x → (i : ℕ) → i ≤ e → FitsTimes (factorI i a x) x
+factor-fits {e} p i l = fits-times (omega (arith, grow-mono i e (p .size) l, p .room)) (in-factor i (p .start) (p .unknown)) (p .unknown)
 
 -- a lowered term is a term of document 01 too
 lowered-in : {n : ℕ} {c : ℤ} {e : ℕ → ℕ} (j : ℕ) → j < n → 0 < e j → TermIn n c e → TermIn n c (lowered j e)

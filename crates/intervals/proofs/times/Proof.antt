@@ -9,7 +9,7 @@ mul-wide-requires : tie.Need-mul-wide-requires
 mul-wide-requires c κs = search needs
 
 outward-requires : tie.Need-outward-requires
-outward-requires c κs = search needs
+outward-requires c κs = rw (c .mul-wide .ensures) (c .before .pre .up)
 
 returns : tie.Need-returns
 unfolding mulI

@@ -11,7 +11,7 @@ use Rattle.intervals.specs.Interval.{zeroI, pointI, addI, negI, outI}
 use Rattle.intervals.specs.Places.{entryAt, cellAt, vectorOf}
 use Rattle.intervals.proofs.Sums.{sumI-none, sumI-more, sumI-done}
 use Rattle.matrices.specs.Products.{dotI, entryB, bOf}
-use Rattle.matrices.proofs.Ranges.{product-fits, more-fits, read-fits, read-back, dot-b, turned-fits, rest-fits}
+use Rattle.matrices.proofs.Ranges.{product-fits, more-fits, read-fits, read-back, dot-b, turned-fits, rest-fits, round-rest}
 use Rattle.matrices.proofs.b_matrix.Statement.{statement}
 use Rattle.matrices.proofs.b_matrix.Tie as tie
 
@@ -123,7 +123,14 @@ add-requires-2 c κs =
     (c .negated .ensures ∙ ap negI sum)
 
 outward-requires : tie.Need-outward-requires Inv-loop3 μ-loop3 Inv-loop2 μ-loop2 Inv-loop μ-loop
-outward-requires c κs = search needs
+unfolding dotI
+outward-requires c κs =
+    let u = c .before .before .before .before in
+    let j = u .before in
+    let i = j .before .before .before in
+    let sum = sumI-done _ (u .loop3 .inv .0) (c .before .before .before .loop3-test .left) (u .loop3 .inv .1) in
+    round-rest (i .before .before .pre) (i .before .loop .i) (i .loop-test .taken) (j .before .loop2 .j) (j .loop2-test .taken)
+    (c .add2 .ensures ∙ ap₂ addI (c .before .before .unit .ensures) (c .before .negated .ensures ∙ ap negI sum))
 
 mul-line : tie.Need-mul-line Inv-loop3 μ-loop3 Inv-loop2 μ-loop2 Inv-loop μ-loop
 mul-line c = omega arith

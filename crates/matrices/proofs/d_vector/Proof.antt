@@ -10,7 +10,7 @@ use Rattle.intervals.specs.Interval.{zeroI, pointI, outI}
 use Rattle.intervals.specs.Places.{entryAt, sideAt}
 use Rattle.intervals.proofs.Sums.{sumI-none, sumI-more, sumI-done}
 use Rattle.matrices.specs.Products.{dotI, dOf}
-use Rattle.matrices.proofs.Ranges.{product-fits, more-fits, read-fits, read-back, dot-d}
+use Rattle.matrices.proofs.Ranges.{product-fits, more-fits, round-fits, read-fits, read-back, dot-d}
 use Rattle.matrices.proofs.d_vector.Statement.{statement}
 use Rattle.matrices.proofs.d_vector.Tie as tie
 
@@ -79,7 +79,12 @@ loop2-again c =
     (omega arith, sumI-more _ _ (c .add .ensures) (a .before .before .loop2 .inv .1) (read-back _ _ (a .mul-point-arg .given) (c .before .mul-point .ensures)))
 
 outward-requires : tie.Need-outward-requires Inv-loop2 μ-loop2 Inv-loop μ-loop
-outward-requires c κs = search needs
+unfolding dotI
+outward-requires c κs =
+    let u = c .before in
+    let o = u .before .before in
+    let sum = sumI-done _ (u .loop2 .inv .0) (c .loop2-test .left) (u .loop2 .inv .1) in
+    round-fits (dot-d (o .before .before .pre) (o .before .loop .i) (o .loop-test .taken)) sum
 
 mul-d : tie.Need-mul-d Inv-loop2 μ-loop2 Inv-loop μ-loop
 mul-d c = omega arith

@@ -10,7 +10,7 @@ use Rattle.intervals.specs.Interval.{zeroI, outI}
 use Rattle.intervals.specs.Places.{cellAt, sideAt}
 use Rattle.intervals.proofs.Sums.{sumI-none, sumI-more, sumI-done}
 use Rattle.matrices.specs.Products.{dotI, eOf}
-use Rattle.matrices.proofs.Ranges.{product-fits, more-fits, dot-e}
+use Rattle.matrices.proofs.Ranges.{product-fits, more-fits, round-fits, dot-e}
 use Rattle.matrices.proofs.e_vector.Statement.{statement}
 use Rattle.matrices.proofs.e_vector.Tie as tie
 
@@ -77,7 +77,12 @@ loop2-again c =
     (omega arith, sumI-more _ _ (c .add .ensures) (a .before .before .loop2 .inv .1) (c .before .mul-wide .ensures))
 
 outward-requires : tie.Need-outward-requires Inv-loop2 μ-loop2 Inv-loop μ-loop
-outward-requires c κs = search needs
+unfolding dotI
+outward-requires c κs =
+    let u = c .before in
+    let o = u .before .before in
+    let sum = sumI-done _ (u .loop2 .inv .0) (c .loop2-test .left) (u .loop2 .inv .1) in
+    round-fits (dot-e (o .before .before .pre) (o .before .loop .i) (o .loop-test .taken)) sum
 
 mul-e : tie.Need-mul-e Inv-loop2 μ-loop2 Inv-loop μ-loop
 mul-e c = omega arith
