@@ -7,6 +7,7 @@ use lib.IntN.{ℤ, pos, _+ℤ_}
 use lib.Signed.{quotZ}
 use mir.Syntax.{w64}
 use mir.Val.{SFits}
+use Rattle.sizes.specs.Bounds.{upMax}
 use Rattle.integers.specs.Ranges.{Within}
 use Rattle.integers.specs.Rounding.{floorBy, ceilBy}
 use Rattle.integers.proofs.Division.{quot-within}
@@ -16,7 +17,6 @@ use Rattle.integers.proofs.Parts.{zorder}
 use Rattle.integers.proofs.Ranges.{fits, within-add}
 use Rattle.integers.proofs.Rounding.{floor-le, floor-lt, ceil-unique}
 use Rattle.intervals.specs.Interval.{mark}
-use Rattle.intervals.specs.Ranges.{upMax}
 
 pub some : 0 < mark
 some = lit< tt

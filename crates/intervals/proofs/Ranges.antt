@@ -9,6 +9,7 @@ use lib.IntN.{ℤ, pos, _+ℤ_}
 use lib.Signed.{_≤ℤ_}
 use mir.Syntax.{w64}
 use mir.Val.{SFits}
+use Rattle.sizes.specs.Bounds.{upMax}
 use Rattle.integers.proofs.Parts.{zorder}
 use Rattle.integers.proofs.Linear.{zlin}
 use Rattle.integers.specs.Ranges.{Within}
@@ -20,7 +21,7 @@ use Rattle.integers.proofs.Rounding.{floor-mono, floor≤ceil, floor-within, ce
 use Rattle.lists.specs.Loops.{carry}
 use Rattle.intervals.specs.declared.Interval.{Interval}
 use Rattle.intervals.specs.Interval.{mark, zeroI, pointI, addI, negI, sumI, scaleI, wideI, outI, mulI, midI, cutI, meetsI}
-use Rattle.intervals.specs.Ranges.{FitsAdd, FitsNeg, FitsScale, FitsMid, FitsMul, FitsTimes, InI, upMax}
+use Rattle.intervals.specs.Ranges.{FitsAdd, FitsNeg, FitsScale, FitsMid, FitsMul, FitsTimes, InI}
 use Rattle.intervals.proofs.Division.{some}
 use Rattle.intervals.proofs.Meeting.{cut-inside, cut-order}
 

@@ -7,11 +7,8 @@ use Rattle.integers.specs.Equal.{eqℤ}
 use Rattle.integers.specs.Rounding.{floorBy, ceilBy}
 use Rattle.integers.specs.Least.{minℤ, maxℤ, min4, max4}
 use Rattle.lists.specs.Loops.{both, carry}
+pub use Rattle.sizes.specs.Sizes.{mark}
 use Rattle.intervals.specs.declared.Interval.{Interval}
-
--- "one mark is 1/65,536"
-abbrev pub mark : ℕ
-mark = 65536
 
 -- [c, c]
 abbrev pub pointI : ℤ → Interval

@@ -1,9 +1,10 @@
 -- What the arithmetic asks of its intervals: "The arithmetic beneath them may state what ranges it needs."
-use Prim.Native.Nat.{ℕ, _^_}
+use Prim.Native.Nat.{ℕ}
 use lib.IntN.{pos, negℤ, _+ℤ_, _*ℤ_}
 use lib.Signed.{_≤ℤ_}
 use mir.Syntax.{w64}
 use mir.Val.{SFits}
+use Rattle.sizes.specs.Bounds.{upMax}
 use Rattle.integers.specs.Ranges.{Within}
 use Rattle.intervals.specs.declared.Interval.{Interval}
 use Rattle.intervals.specs.Interval.{wideI}
@@ -32,10 +33,6 @@ pub record FitsMul (a b : Interval) : Type 0 where
   pub lh : SFits w64 (a .lo *ℤ b .hi)
   pub hl : SFits w64 (a .hi *ℤ b .lo)
   pub hh : SFits w64 (a .hi *ℤ b .hi)
-
--- what can be rounded up: with one short of a mark added it still fits
-abbrev pub upMax : ℕ
-upMax = 2 ^ 62
 
 -- a product and its outward rounding
 pub record FitsTimes (a b : Interval) : Type 0 where

@@ -1,13 +1,12 @@
 // Intervals of marks: exact sums and products, one outward rounding, and the questions that a step asks of two intervals.
 ghost use mathlib.Core.Path.{_≡_};
+ghost use Rattle.sizes.specs.Bounds.{upMax};
 ghost use Rattle.integers.specs.Rounding.{floorBy, ceilBy};
 ghost use Rattle.integers.specs.Least.{minℤ, maxℤ, min4, max4};
 ghost use Rattle.integers.specs.Ranges.{Within};
 ghost use Rattle.intervals.specs.Interval.{mark, pointI, addI, negI, scaleI, wideI, outI, mulI, midI, cutI, meetsI, insideI, sameI};
-ghost use Rattle.intervals.specs.Ranges.{FitsAdd, FitsNeg, FitsScale, FitsMul, FitsTimes, FitsMid, upMax};
-
-// "one mark is 1/65,536"
-pub const MARK: i64 = 65536;
+use sizes::MARK;
+ghost use Rattle.intervals.specs.Ranges.{FitsAdd, FitsNeg, FitsScale, FitsMul, FitsTimes, FitsMid};
 
 // One short of a mark.
 const REST: i64 = MARK - 1;

@@ -3,7 +3,7 @@ use mathlib.Core.Path.{_≡_, ap, _∙_}
 use mathlib.Core.Bool.{Bool, true, false, cond}
 use Prim.Native.Nat.{ℕ, _+_, _*_, _^_, _<_, _≤_, zero-le}
 use native.Mathlib.Omega.{arith}
-use native.Mathlib.Nat.{le-refl, mul-le-mul-right, suc-mul}
+use native.Mathlib.Nat.{le-refl, le-trans, mul-le-mul-right, suc-mul}
 use lib.Dec.{eqb}
 use lib.IntN.{ℤ, pos}
 use lib.Signed.{mag}
@@ -13,13 +13,14 @@ use Rattle.sizes.specs.Sizes.{entryMax}
 use Rattle.integers.specs.Ranges.{Within}
 use Rattle.integers.proofs.Machine.{back, ok}
 use Rattle.intervals.specs.Interval.{mark, pointI, addI, negI, wideI}
-use Rattle.intervals.specs.Ranges.{FitsAdd, FitsNeg, FitsMul, InI, upMax}
+use Rattle.intervals.specs.Ranges.{FitsAdd, FitsNeg, FitsMul, InI}
 use Rattle.intervals.proofs.Ranges.{in-point, in-add, in-neg, in-wide, in-out, in-sum, up-within}
 use Rattle.intervals.proofs.Ranges.{fits-add, fits-neg, fits-mul}
-use Rattle.sizes.specs.Bounds.{valueMax, slopeMax}
+use Rattle.sizes.specs.Bounds.{valueMax, slopeMax, zMax, dMax, bMax, eMax, upMax}
+use Rattle.sizes.proofs.Sums.{d-room, b-room, e-room}
 use Rattle.intervals.specs.declared.Interval.{Interval}
 use Rattle.matrices.specs.Products.{dotI, unitZ, entryB, dOf, bOf, eOf}
-use Rattle.matrices.specs.Ranges.{zMax, dMax, bMax, eMax, DIn, BIn, EIn}
+use Rattle.matrices.specs.Ranges.{DIn, BIn, EIn}
 
 pub in-dot : (n A B : ℕ) {a b : ℕ → Interval} → ((k : ℕ) → k < n → InI A (a k)) → ((k : ℕ) → k < n → InI B (b k))
     → InI (n * (A * B)) (dotI n a b)
@@ -61,7 +62,13 @@ read-back z x g e = e ∙ ap (λ (z : ℤ). wideI (pointI z) x) (back (ok z g))
 -- D
 module _ {n : ℕ} {C : ℕ → ℕ → ℤ} {F : ℕ → Interval} (h : DIn n C F) (i : ℕ) (l : i < n) where
   pub dot-d : DotIn n (λ k. pointI (C i k)) F
-  dot-d = record { left = entryMax; right = valueMax; lefts = λ k m. in-point (h .inverse i k l m); rights = h .values; sum = omega (arith, h .room) }
+  dot-d = record {
+    left = entryMax;
+    right = valueMax;
+    lefts = λ k m. in-point (h .inverse i k l m);
+    rights = h .values;
+    sum = le-trans (mul-le-mul-right (entryMax * valueMax) (h .room)) d-room;
+  }
 
   pub in-d : InI dMax (dOf n C F i)
   unfolding dOf
@@ -77,27 +84,30 @@ unit-within i j = by (eqb i j)
     by false = record { abs = zero-le }
 
 module _ {n : ℕ} {C : ℕ → ℕ → ℤ} {S : ℕ → ℕ → Interval} (h : BIn n C S) (i : ℕ) (l : i < n) (j : ℕ) (m : j < n) where
+  whole : mark * mark + n * (entryMax * slopeMax) ≤ upMax
+  whole = omega (arith, mul-le-mul-right (entryMax * slopeMax) (h .room), b-room)
+
   pub dot-b : DotIn n (λ k. pointI (C i k)) (λ k. S k j)
   dot-b = record {
     left = entryMax;
     right = slopeMax;
     lefts = λ k u. in-point (h .inverse i k l u);
     rights = λ k u. h .slopes k j u m;
-    sum = omega (arith, h .room);
+    sum = omega (arith, whole);
   }
 
   product-in : InI (n * (entryMax * slopeMax)) (dotI n (λ k. pointI (C i k)) (λ k. S k j))
   product-in = in-dot n entryMax slopeMax (λ k u. in-point (h .inverse i k l u)) (λ k u. h .slopes k j u m)
 
   pub turned-fits : {p : Interval} → p ≡ dotI n (λ k. pointI (C i k)) (λ k. S k j) → FitsNeg p
-  turned-fits e = rw e (fits-neg (omega (arith, h .room)) product-in)
+  turned-fits e = rw e (fits-neg (omega (arith, whole)) product-in)
 
   pub rest-fits : {u t : Interval} → u ≡ pointI (unitZ i j) → t ≡ negI (dotI n (λ k. pointI (C i k)) (λ k. S k j)) → FitsAdd u t
-  rest-fits e q = rw (e, q) (fits-add (omega (arith, h .room)) (in-point (unit-within i j)) (in-neg product-in))
+  rest-fits e q = rw (e, q) (fits-add (omega (arith, whole)) (in-point (unit-within i j)) (in-neg product-in))
 
   pub round-rest : {s : Interval}
       → s ≡ addI (pointI (unitZ i j)) (negI (dotI n (λ k. pointI (C i k)) (λ k. S k j))) → Within (s .hi) upMax
-  round-rest e = rw e (up-within (omega (arith, h .room)) (in-add (in-point (unit-within i j)) (in-neg product-in)))
+  round-rest e = rw e (up-within whole (in-add (in-point (unit-within i j)) (in-neg product-in)))
 
   pub in-b : InI bMax (bOf n C S i j)
   unfolding bOf entryB
@@ -106,7 +116,13 @@ module _ {n : ℕ} {C : ℕ → ℕ → ℤ} {S : ℕ → ℕ → Interval} (h :
 -- E
 module _ {n : ℕ} {B : ℕ → ℕ → Interval} {Z : ℕ → Interval} (h : EIn n B Z) (i : ℕ) (l : i < n) where
   pub dot-e : DotIn n (B i) Z
-  dot-e = record { left = bMax; right = zMax; lefts = λ k m. h .factors i k l m; rights = h .sides; sum = omega (arith, h .room) }
+  dot-e = record {
+    left = bMax;
+    right = zMax;
+    lefts = λ k m. h .factors i k l m;
+    rights = h .sides;
+    sum = le-trans (mul-le-mul-right (bMax * zMax) (h .room)) e-room;
+  }
 
   pub in-e : InI eMax (eOf n B Z i)
   unfolding eOf

@@ -1,6 +1,7 @@
 // The scalar products of a step: "The sums of products follow source document 004: exact, and rounded outward once."
 // Each function works on the first n places of its arrays and leaves the others of its result zero.
 use intervals::Interval;
+use sizes::MARK;
 use sizes::N;
 ghost use mathlib.Core.Path.{_≡_};
 ghost use Rattle.intervals.specs.Interval.{pointI};
@@ -9,7 +10,7 @@ ghost use Rattle.matrices.specs.Products.{unitZ, dOf, bOf, eOf};
 ghost use Rattle.matrices.specs.Ranges.{DIn, BIn, EIn};
 
 // 1.0 before the rounding of a product.
-const ONE: i64 = intervals::MARK * intervals::MARK;
+const ONE: i64 = MARK * MARK;
 
 // D = C F.
 pub fn d_vector(c: [[i64; N]; N], f: [Interval; N], n: usize) -> [Interval; N]

@@ -11,8 +11,8 @@ use Rattle.intervals.specs.Ranges.{InI}
 use Rattle.intervals.proofs.Places.{side-made, cell-made}
 use Rattle.intervals.proofs.Ranges.{in-point, in-add, in-neg, in-mid}
 use Rattle.matrices.specs.Products.{dOf, bOf, eOf}
-use Rattle.sizes.specs.Bounds.{valueMax, slopeMax}
-use Rattle.matrices.specs.Ranges.{zMax, dMax, bMax, eMax, DIn, BIn, EIn}
+use Rattle.sizes.specs.Bounds.{valueMax, slopeMax, zMax, dMax, bMax, eMax}
+use Rattle.matrices.specs.Ranges.{DIn, BIn, EIn}
 use Rattle.matrices.proofs.Ranges.{in-d, in-b, in-e}
 use Rattle.systems.specs.Terms.{equationOver, slopeOver, valuesOver, slopeRow, slopesOver}
 use Rattle.systems.specs.Ranges.{BoxIn}

@@ -4,7 +4,7 @@ use lib.IntN.{ℤ}
 use Rattle.sizes.specs.Sizes.{nMax, endMax, entryMax}
 use Rattle.integers.specs.Ranges.{Within}
 use Rattle.intervals.specs.Ranges.{InI}
-use Rattle.matrices.specs.Ranges.{dMax, eMax}
+use Rattle.sizes.specs.Bounds.{dMax, eMax}
 use Rattle.systems.specs.Ranges.{BoxIn, SystemIn}
 use Rattle.intervals.specs.declared.Interval.{Interval}
 use Rattle.jobs.specs.declared.Equation.{Equation}

@@ -1,7 +1,6 @@
--- How large the parts of a step can be, from the sizes: "With these sizes every sum of products below fits a signed 64-bit number." An end is at most
--- 4.0, so that each product makes a bound 4 times as large.
-use Prim.Native.Nat.{ℕ, _*_}
-use Rattle.sizes.specs.Sizes.{termsMax, entryMax, degreeMax}
+-- How large the parts of a step can be, from the sizes. An end is at most 4.0, so that each product makes a bound 4 times as large.
+use Prim.Native.Nat.{ℕ, _+_, _*_, _^_}
+use Rattle.sizes.specs.Sizes.{mark, nMax, termsMax, endMax, entryMax, degreeMax}
 
 -- a term: 2 to the power 28
 abbrev pub termMax : ℕ
@@ -22,3 +21,22 @@ partMax = degreeMax * loweredMax
 -- S, a slope: 48 times 2 to the power 26
 abbrev pub slopeMax : ℕ
 slopeMax = termsMax * partMax
+
+-- Z: an end less a middle
+abbrev pub zMax : ℕ
+zMax = endMax + endMax
+
+-- D and B: an entry of C is at most 64.0
+abbrev pub dMax : ℕ
+dMax = nMax * (64 * valueMax)
+
+abbrev pub bMax : ℕ
+bMax = mark + nMax * (64 * slopeMax)
+
+-- E: Z is at most 8.0
+abbrev pub eMax : ℕ
+eMax = nMax * (8 * bMax)
+
+-- what can be rounded up: with one short of a mark added it still fits a signed 64-bit number
+abbrev pub upMax : ℕ
+upMax = 2 ^ 62

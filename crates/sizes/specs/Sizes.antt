@@ -1,6 +1,10 @@
 -- The sizes of document 01, "Numbers and sizes", as the contracts cite them.
 use Prim.Native.Nat.{ℕ}
 
+-- "one mark is 1/65,536"
+abbrev pub mark : ℕ
+mark = 65536
+
 -- "n: 1 to 4"
 abbrev pub nMax : ℕ
 nMax = 4

@@ -16,7 +16,8 @@ use Rattle.intervals.specs.Ranges.{InI, FitsAdd, FitsTimes, FitsScale}
 use Rattle.intervals.proofs.Ranges.{in-zero, in-point, in-more, in-mul, in-scale, in-sum, fits-add, fits-times, fits-scale}
 use Rattle.intervals.specs.Places.{sideAt}
 use Rattle.jobs.specs.Terms.{degree}
-use Rattle.sizes.specs.Bounds.{termMax, loweredMax, valueMax, partMax, slopeMax}
+use Rattle.sizes.proofs.Sums.{term-room}
+use Rattle.sizes.specs.Bounds.{upMax, termMax, loweredMax, valueMax, partMax, slopeMax}
 use Rattle.intervals.specs.declared.Interval.{Interval}
 use Rattle.jobs.specs.declared.Equation.{Equation}
 use Rattle.systems.specs.Terms.{coefOf, expsOf, factorI, termOver, equationOver, lowered, termSlope, slopeOver, valuesOver, slopesOver}
@@ -54,7 +55,10 @@ in-factor (suc e) h k = in-mul _ (omega arith) (in-factor e h k) k
 
 -- what each product of a factor asks
 pub factor-fits : {e : ℕ} {a x : Interval} → FactorIn e a x → (i : ℕ) → i ≤ e → FitsTimes (factorI i a x) x
-factor-fits {e} p i l = fits-times (omega (arith, grow-mono i e (p .size) l, p .room)) (in-factor i (p .start) (p .unknown)) (p .unknown)
+factor-fits {e} p i l = fits-times room (in-factor i (p .start) (p .unknown)) (p .unknown)
+  where
+    room : grow i (p .size) * endMax ≤ upMax
+    room = le-trans (mul-le-mul-right endMax (le-trans (grow-mono i e (p .size) l) (p .room))) term-room
 
 -- a lowered term is a term of document 01 too
 lowered-in : {n : ℕ} {c : ℤ} {e : ℕ → ℕ} (j : ℕ) → j < n → 0 < e j → TermIn n c e → TermIn n c (lowered j e)

@@ -4,6 +4,7 @@ use jobs::Equation;
 use jobs::Job;
 use jobs::Kind;
 use jobs::Term;
+use sizes::MARK;
 use sizes::N;
 use sizes::TERMS;
 ghost use mathlib.Core.Path.{_≡_};
@@ -219,7 +220,7 @@ pub fn eigen_equation(row: [i64; N], i: usize, p: usize, n: usize) -> Equation
     }; TERMS];
     let count = n + 1;
     for t in 0..count {
-        terms[t] = row_term(row, intervals::MARK, t, n, eigen_exponents(t, i, p, n));
+        terms[t] = row_term(row, MARK, t, n, eigen_exponents(t, i, p, n));
     }
     Equation {
         count: count,
