@@ -74,7 +74,7 @@ loop-again : tie.Need-loop-again Inv-loop μ-loop
 loop-again c =
     let s = c .before .before .before .before .before .before .before .args .s .now in
     let l = c .before .before .before .before .before .loop in
-    let test = c .before .before .before .before .loop-test .taken in
+    let test : l .a ≤ length s = omega (arith, c .before .before .before .before .loop-test .taken) in
     let e = c .before .before .before .piece-end in
     let acc : Numbers = counted (l .t) (l .vals) in
     let f : List ℕ = take (e .result - l .a) (drop (l .a) s) in
