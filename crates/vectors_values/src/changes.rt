@@ -1,0 +1,108 @@
+// A job or a result with one value changed. The place is one of the first two of its kind.
+use jobs::Equation;
+use jobs::Job;
+use jobs::Result;
+use jobs::Term;
+use sizes::TERMS;
+
+pub fn number(j: Job, number: u64) -> Job {
+    let mut r = j;
+    r.number = number;
+    r
+}
+
+pub fn unknowns(j: Job, n: usize) -> Job {
+    let mut r = j;
+    r.n = n;
+    r
+}
+
+pub fn steps(j: Job, steps: u64) -> Job {
+    let mut r = j;
+    r.steps = steps;
+    r
+}
+
+// The ends of the second unknown.
+pub fn ends(j: Job, lo: i64, hi: i64) -> Job {
+    let mut r = j;
+    r.lo[1] = lo;
+    r.hi[1] = hi;
+    r
+}
+
+// The last live entry of the inverse.
+pub fn inverse(j: Job, v: i64) -> Job {
+    let mut r = j;
+    let mut row = r.inv[1];
+    row.at[1] = v;
+    r.inv[1] = row;
+    r
+}
+
+// All places of the first equation, and how many of them are live.
+pub fn first_terms(j: Job, t: Term, count: usize) -> Job {
+    let mut r = j;
+    let terms = [t; TERMS];
+    r.eqs[0] = Equation { count, terms };
+    r
+}
+
+// The first term of the first equation.
+pub fn first_term(j: Job, t: Term) -> Job {
+    let mut r = j;
+    let mut q = r.eqs[0];
+    q.terms[0] = t;
+    r.eqs[0] = q;
+    r
+}
+
+// The last term of the second equation.
+pub fn last_term(j: Job, t: Term) -> Job {
+    let mut r = j;
+    let mut q = r.eqs[1];
+    q.terms[1] = t;
+    r.eqs[1] = q;
+    r
+}
+
+// The last live entry of the matrix.
+pub fn entry(j: Job, v: i64) -> Job {
+    let mut r = j;
+    let mut row = r.rows[1];
+    row.at[1] = v;
+    r.rows[1] = row;
+    r
+}
+
+// The first right side.
+pub fn right(j: Job, v: i64) -> Job {
+    let mut r = j;
+    r.right[0] = v;
+    r
+}
+
+pub fn result_number(a: Result, number: u64) -> Result {
+    let mut r = a;
+    r.number = number;
+    r
+}
+
+pub fn result_unknowns(a: Result, n: usize) -> Result {
+    let mut r = a;
+    r.n = n;
+    r
+}
+
+pub fn result_steps(a: Result, steps: u64) -> Result {
+    let mut r = a;
+    r.steps = steps;
+    r
+}
+
+pub fn result_ends(a: Result, lo: i64, hi: i64) -> Result {
+    let mut r = a;
+    r.lo[1] = lo;
+    r.hi[1] = hi;
+    r
+}
