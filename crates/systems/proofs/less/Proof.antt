@@ -1,11 +1,12 @@
 -- less: the exponent of unknown j is lowered by one, the others stand.
+use native.Mathlib.Omega.{arith}
 use mathlib.Core.Path.{sym}
 use Rattle.systems.proofs.Exponents.{lowered-same, lowered-other}
 use Rattle.systems.proofs.less.Statement.{statement}
 use Rattle.systems.proofs.less.Tie as tie
 
 sub-result : tie.Need-sub-result
-sub-result c = c .before .pre (c .if1 .taken)
+sub-result c = omega (arith, c .before .pre (c .if1 .taken))
 
 returns : tie.Need-returns
 returns c = rw (c .if1 .taken) (sym (lowered-same _ _))
