@@ -1,4 +1,5 @@
--- A quotient by 65,536, and one that is at most 1 away from it, fits; and how the division rounded up follows from the one rounded down.
+-- A quotient by 65,536, and one that is at most 1 away from it, fits; how the division rounded up follows from the one
+-- rounded down.
 use mathlib.Core.Path.{_≡_}
 use Prim.Native.Nat.{ℕ, _<_, _-_}
 use native.Mathlib.Nat.{le-of-lt}
