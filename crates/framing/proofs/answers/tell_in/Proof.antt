@@ -1,0 +1,41 @@
+-- `framing::answers::tell_in` meets its contract.
+use borrow.Author.Needs.{needs}
+use native.Mathlib.Omega.{arith}
+use Rattle.framing.proofs.Told.{told-text, told-all, told-fault}
+use Rattle.framing.proofs.answers.tell_in.Statement.{statement}
+use Rattle.framing.proofs.answers.tell_in.Tie as tie
+
+enum-known-status : tie.Need-enum-known-status
+enum-known-status c = search needs
+
+put-fault-requires : tie.Need-put-fault-requires
+put-fault-requires c κs = search needs
+
+enum-told : tie.Need-enum-told
+enum-told c = search needs
+
+returns : tie.Need-returns
+returns c = told-text _ _ (c .before .before .enum-told .given .1) (c .if1 .taken)
+
+same-length : tie.Need-same-length
+same-length c = search needs
+
+returns-2 : tie.Need-returns-2
+returns-2 c =
+    let start = c .before .before .before .before .before .before .before .before in
+    told-fault _ _ _ _ (start .pre) (c .before .before .before .before .before .status .given .1) (c .before .before .put-fault .ensures)
+
+returns-3 : tie.Need-returns-3
+returns-3 c = told-all _ _ (c .before .before .enum-told .given .1) (omega (arith, c .if1 .left))
+
+pub tell-in-spec : {M : Type 1} → statement M
+tell-in-spec =
+    tie.close
+    (tie.spec
+    enum-known-status
+    put-fault-requires
+    enum-told
+    returns
+    same-length
+    returns-2
+    returns-3)

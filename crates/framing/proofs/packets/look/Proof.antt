@@ -1,0 +1,78 @@
+-- `framing::packets::look` meets its contract.
+use borrow.Author.Needs.{needs}
+use borrow.Author.Tests.{le-leb, lt-leb}
+use native.Mathlib.Omega.{arith}
+use mathlib.Core.Path.{sym}
+use lib.Seq.{length-take-le}
+use Rattle.framing.specs.Packets.{lookAt, lookOf}
+use Rattle.framing.proofs.Ends.{end-is}
+use Rattle.framing.proofs.packets.look.Statement.{statement}
+use Rattle.framing.proofs.packets.look.Tie as tie
+
+piece-end-requires : tie.Need-piece-end-requires
+piece-end-requires c κs = search needs
+
+nothing-requires : tie.Need-nothing-requires
+nothing-requires c κs = search needs
+
+returns : tie.Need-returns
+unfolding lookOf lookAt
+returns c = record {
+  same = rw (end-is _ _ (c .before .before .piece-end .ensures), le-leb _ _ (c .before .if1 .taken)) (c .nothing .ensures);
+  low = rw (c .nothing .ensures) (omega arith);
+  high = rw (c .nothing .ensures) (omega arith);
+}
+
+nothing-requires-2 : tie.Need-nothing-requires-2
+nothing-requires-2 c κs = search needs
+
+returns-2 : tie.Need-returns-2
+unfolding lookOf lookAt
+returns-2 c = record {
+  same = rw (
+    end-is _ _ (c .before .before .before .piece-end .ensures),
+    lt-leb _ _ (c .before .before .if1 .left),
+    le-leb _ _ (c .before .if2 .taken),
+  )
+      (c .nothing2 .ensures);
+  low = rw (c .nothing2 .ensures) (omega arith);
+  high = rw (c .nothing2 .ensures) (omega arith);
+}
+
+slice-aggregate-request-of : tie.Need-slice-aggregate-request-of
+slice-aggregate-request-of c = sym (length-take-le _ _ (omega (arith, c .before .if2 .left)))
+
+request-of-requires : tie.Need-request-of-requires
+request-of-requires c κs = search needs
+
+add-text-at : tie.Need-add-text-at
+add-text-at c = search needs
+
+text-at-requires : tie.Need-text-at-requires
+text-at-requires c κs = search needs
+
+returns-3 : tie.Need-returns-3
+unfolding lookOf lookAt
+returns-3 c =
+    let tests = c .before .before .before in
+    record {
+      same = rw (end-is _ _ (tests .before .before .piece-end .ensures), lt-leb _ _ (tests .before .if1 .left), lt-leb _ _ (tests .if2 .left))
+          (rw (← c .before .request-of .ensures) (c .text-at .ensures .same));
+      low = c .text-at .ensures .low;
+      high = c .text-at .ensures .high;
+    }
+
+pub look-spec : {M : Type 1} → statement M
+look-spec =
+    tie.close
+    (tie.spec
+    piece-end-requires
+    nothing-requires
+    returns
+    nothing-requires-2
+    returns-2
+    slice-aggregate-request-of
+    request-of-requires
+    add-text-at
+    text-at-requires
+    returns-3)

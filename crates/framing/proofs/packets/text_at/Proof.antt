@@ -1,0 +1,69 @@
+-- `framing::packets::text_at` meets its contract.
+use borrow.Author.Needs.{needs}
+use borrow.Author.Tests.{lt-ltb, le-ltb}
+use native.Mathlib.Omega.{arith}
+use Rattle.framing.specs.Packets.{textAt}
+use Rattle.framing.proofs.packets.text_at.Statement.{statement}
+use Rattle.framing.proofs.packets.text_at.Tie as tie
+
+enum-told : tie.Need-enum-told
+enum-told c = search needs
+
+nothing-requires : tie.Need-nothing-requires
+nothing-requires c κs = search needs
+
+enum-known-request : tie.Need-enum-known-request
+enum-known-request c = search needs
+
+kept-requires : tie.Need-kept-requires
+kept-requires c κs = search needs
+
+add-to : tie.Need-add-to
+add-to c = omega arith
+
+nothing-requires-2 : tie.Need-nothing-requires-2
+nothing-requires-2 c κs = search needs
+
+returns : tie.Need-returns
+unfolding textAt
+returns c = record {
+  same = rw (c .before .before .before .before .request .given .1)
+      (simp (lt-ltb _ _ (rw (c .before .before .kept .ensures) at (c .before .if1 .taken))) (c .nothing2 .ensures));
+  low = rw (c .nothing2 .ensures) (omega arith);
+  high = rw (c .nothing2 .ensures) (omega arith);
+}
+
+passed-requires : tie.Need-passed-requires
+passed-requires c κs = search needs
+
+returns-2 : tie.Need-returns-2
+unfolding textAt
+returns-2 c = record {
+  same = rw (c .before .enum-told .given .1) (c .nothing .ensures);
+  low = rw (c .nothing .ensures) (omega arith);
+  high = rw (c .nothing .ensures) (omega arith);
+}
+
+returns-3 : tie.Need-returns-3
+unfolding textAt
+returns-3 c = record {
+  same = rw (c .before .before .before .before .request .given .1)
+      (simp (le-ltb _ _ (rw (c .before .before .kept .ensures) at (c .before .if1 .left))) (cc (c .before .before .kept .ensures, c .passed .ensures)));
+  low = omega arith;
+  high = omega arith;
+}
+
+pub text-at-spec : {M : Type 1} → statement M
+text-at-spec =
+    tie.close
+    (tie.spec
+    enum-told
+    nothing-requires
+    enum-known-request
+    kept-requires
+    add-to
+    nothing-requires-2
+    returns
+    passed-requires
+    returns-2
+    returns-3)

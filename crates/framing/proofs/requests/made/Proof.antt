@@ -1,0 +1,24 @@
+-- `framing::requests::made` meets its contract.
+use borrow.Author.Needs.{needs}
+use Rattle.framing.specs.Requests.{asked}
+use Rattle.framing.proofs.requests.made.Statement.{statement}
+use Rattle.framing.proofs.requests.made.Tie as tie
+
+enum-known-name : tie.Need-enum-known-name
+enum-known-name c = search needs
+
+sized-requires : tie.Need-sized-requires
+sized-requires c κs = search needs
+
+enum-told : tie.Need-enum-told
+enum-told c = search needs
+
+returns : tie.Need-returns
+returns c = rw (c .before .before .name .given .1) (c .sized .ensures)
+
+returns-2 : tie.Need-returns-2
+unfolding asked
+returns-2 c = search needs
+
+pub made-spec : {M : Type 1} → statement M
+made-spec = tie.close (tie.spec enum-known-name sized-requires enum-told returns returns-2)

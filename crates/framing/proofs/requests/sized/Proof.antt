@@ -1,0 +1,22 @@
+-- `framing::requests::sized` meets its contract.
+use borrow.Author.Needs.{needs}
+use Rattle.framing.specs.Requests.{asked}
+use Rattle.framing.proofs.requests.sized.Statement.{statement}
+use Rattle.framing.proofs.requests.sized.Tie as tie
+
+enum-known-length : tie.Need-enum-known-length
+enum-known-length c = search needs
+
+enum-told : tie.Need-enum-told
+enum-told c = search needs
+
+returns : tie.Need-returns
+unfolding asked
+returns c = rw (c .before .length .given .1)
+
+returns-2 : tie.Need-returns-2
+unfolding asked
+returns-2 c = search needs
+
+pub sized-spec : {M : Type 1} → statement M
+sized-spec = tie.close (tie.spec enum-known-length enum-told returns returns-2)

@@ -1,0 +1,28 @@
+-- `framing::requests::spelled` meets its contract.
+use borrow.Author.Needs.{needs}
+use borrow.Author.Tests.{eq-eqb, ne-eqb}
+use Rattle.framing.specs.Requests.{isSpelled}
+use Rattle.framing.proofs.requests.spelled.Statement.{statement}
+use Rattle.framing.proofs.requests.spelled.Tie as tie
+
+returns : tie.Need-returns
+unfolding isSpelled
+returns c = rw (eq-eqb _ _ (c .if1 .taken))
+
+shared-slice-read-if2 : tie.Need-shared-slice-read-if2
+shared-slice-read-if2 c = search needs
+
+returns-2 : tie.Need-returns-2
+unfolding isSpelled
+returns-2 c = rw (ne-eqb _ _ (c .before .before .if1 .left)) (simp (eq-eqb _ _ (c .if2 .taken)))
+
+all-digits-requires : tie.Need-all-digits-requires
+all-digits-requires c κs = search needs
+
+returns-3 : tie.Need-returns-3
+unfolding isSpelled
+returns-3 c = rw (ne-eqb _ _ (c .before .before .before .if1 .left)) (simp (ne-eqb _ _ (c .before .if2 .left)) (c .all-digits .ensures))
+
+pub spelled-spec : {M : Type 1} → statement M
+spelled-spec =
+    tie.close (tie.spec returns shared-slice-read-if2 returns-2 all-digits-requires returns-3)

@@ -1,0 +1,3 @@
+pub mod Requests
+pub mod Packets
+pub mod Answers

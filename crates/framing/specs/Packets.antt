@@ -1,0 +1,55 @@
+-- The bytes of a request: its line, and what is kept of its text.
+use Prim.Native.Nat.{ℕ, suc, _+_, _-_, _≤_, min}
+use mathlib.Core.Path.{_≡_}
+use mathlib.Core.List.{List, [], _∷_}
+use mathlib.Core.Bool.{cond}
+use lib.ListN.{length, take}
+use lib.Dec.{eqb, ltb, leb}
+use Rattle.sizes.specs.Sizes.{textMax}
+use Rattle.digits.specs.Bytes.{lineFeed}
+use Rattle.framing.specs.Requests.{requestOf}
+use Rattle.framing.specs.declared.requests.Request.{Request}
+use Rattle.framing.specs.declared.packets.Seen.{Seen}
+use Rattle.framing.specs.declared.packets.Packet.{Packet}
+
+-- bytes of a request's line, its LF included
+abbrev pub headerMax : ℕ
+headerMax = 4096
+
+-- of a text that is too long, one byte more than may be is kept, and the others are passed over
+abbrev pub keptOf : ℕ → ℕ
+keptOf n = min n (textMax + 1)
+
+abbrev pub passedOf : ℕ → ℕ
+passedOf n = n - keptOf n
+
+-- the place of the first LF; the length where there is none
+unfoldable pub lineEnd : List ℕ → ℕ
+lineEnd [] = 0
+lineEnd (b ∷ l) = cond (eqb b lineFeed) 0 (suc (lineEnd l))
+
+abbrev pub without : Seen → Packet
+without s = record { seen = s; from = 0; to = 0; passed = 0 }
+
+-- of n bytes at hand, those from `from` on are of the text
+unfoldable pub textAt : Request → ℕ → ℕ → Packet
+textAt Request.Bad from n = without Seen.Bad
+textAt (Request.Ask op length) from n =
+    cond (ltb n (from + keptOf length)) (without Seen.More)
+    (record { seen = Seen.Ask op; from = from; to = from + keptOf length; passed = passedOf length })
+
+unfoldable pub lookAt : ℕ → List ℕ → Packet
+lookAt end have =
+    cond (leb headerMax end) (without Seen.Bad)
+    (cond (leb (length have) end) (without Seen.More)
+    (textAt (requestOf (take end have)) (end + 1) (length have)))
+
+-- a line has at most so many bytes; while it has fewer and no LF, more may come
+unfoldable pub lookOf : List ℕ → Packet
+lookOf have = lookAt (lineEnd have) have
+
+-- a packet of n bytes at hand, and that its text is among them
+pub record Inside (r is : Packet) (n : ℕ) : Type 0 where
+  pub same : r ≡ is
+  pub low : r .from ≤ r .to
+  pub high : r .to ≤ n

@@ -1,0 +1,68 @@
+// What a request is answered with, and how an answer is put.
+ghost use mathlib.Core.Path.{_≡_};
+ghost use Prim.Native.Nat.{_+_, _≤_, _<_};
+ghost use lib.ListN.{length};
+ghost use Rattle.jobs.specs.declared.Status.{Status};
+ghost use Rattle.writing.specs.Wrote.{placeMax, Wrote};
+ghost use Rattle.writing.specs.Answer.{Leaves};
+ghost use Rattle.framing.specs.Answers.{statusOf, textOf, roomMax, faultBytes, lineMax, Tells, Puts};
+use crate::requests::Op;
+use jobs::Fault;
+use jobs::Status;
+use sizes::TEXT;
+use writing::Written;
+use writing::put_bytes;
+use writing::put_count_line;
+
+// Bytes that every answer fits in.
+pub const ROOM: usize = TEXT;
+
+pub fn reply(op: Op, text: &[u8], out: &mut [u8]) -> Written
+    ensures { λ a. ⌜ Leaves (statusOf op (now (text .entry))) (textOf op (now (text .entry))) (now (out .entry)) (now (out .exit)) a ⌝ }
+{
+    match op {
+        Op::Solve => desk::solve(text, out),
+        Op::Job => desk::rewrite_job(text, out),
+        Op::Result => desk::rewrite_result(text, out),
+    }
+}
+
+fn put_fault(out: &mut [u8], f: Fault, line: u64) -> usize
+    ensures { λ r. ⌜ Wrote (now (out .entry)) (now (out .exit)) 0 r (faultBytes (Status.Refused f line)) ⌝ }
+{
+    let number = desk::fault_number(f);
+    let a = put_count_line(out, 0, b"fault=", number);
+    put_count_line(out, a, b"line=", line)
+}
+
+fn tell_in(a: Written, out: &mut [u8]) -> usize
+    requires { ⌜ roomMax ≤ length (now out) ⌝ }
+    ensures { λ r. ⌜ Tells a (now (out .entry)) (now (out .exit)) r ⌝ }
+{
+    let status = a.status;
+    match status {
+        Status::Refused(f, line) => put_fault(out, f, line),
+        Status::Done => {
+            if a.len <= out.len() {
+                return a.len;
+            }
+            out.len()
+        }
+    }
+}
+
+// How many bytes of the buffer tell the answer that stands in it: a text as it is, a fault by two lines.
+pub fn tell(a: Written, out: &mut [u8; ROOM]) -> usize
+    ensures { λ r. ⌜ Tells a (now (out .entry)) (now (out .exit)) r ⌝ }
+{
+    tell_in(a, out)
+}
+
+// The answer's length and LF, then its bytes.
+pub fn put_answer(out: &mut [u8], at: usize, answer: &[u8]) -> usize
+    requires { ⌜ at + lineMax + length (now answer) ≤ placeMax ⌝ }
+    ensures { λ r. ⌜ Puts (now (out .entry)) (now (out .exit)) at r (now (answer .entry)) ⌝ }
+{
+    let next = put_count_line(out, at, b"", answer.len() as u64);
+    put_bytes(out, next, answer)
+}
