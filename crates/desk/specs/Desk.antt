@@ -1,13 +1,6 @@
 -- What the desk makes of a text. A fault "writes nowhere", so that each entry has a status and the bytes that are written where it is no fault.
 use Prim.Native.Nat.{ℕ}
-use mathlib.Core.List.{List, [], _∷_, _++_}
-use lib.ListN.{length}
-use lib.Seq.{sets}
-use Rattle.digits.specs.Bytes.{lineFeed}
-use Rattle.digits.specs.Number.{digitsMax}
-use Rattle.digits.specs.Show.{showMagnitude}
-use Rattle.text.specs.Cut.{endEach}
-use Rattle.jobs.specs.Words.{numberOf, lineOf}
+use mathlib.Core.List.{List}
 use Rattle.jobs.specs.Checks.{andThen, checkJob}
 use Rattle.jobs.specs.CheckResult.{checkResult}
 use Rattle.resulttext.specs.ResultText.{readResult}
@@ -17,20 +10,6 @@ use Rattle.jobwrite.specs.ShowJob.{jobBytes}
 use Rattle.run.specs.Job.{runJob}
 use Rattle.jobs.specs.declared.Status.{Status}
 use Rattle.jobs.specs.declared.Job.{Job}
-
--- `fault=`
-abbrev pub faultKey : List ℕ
-faultKey = 102 ∷ 97 ∷ 117 ∷ 108 ∷ 116 ∷ 61 ∷ []
-
--- `line=`
-abbrev pub lineKey : List ℕ
-lineKey = 108 ∷ 105 ∷ 110 ∷ 101 ∷ 61 ∷ []
-
--- "A fault returns its number and a line": a line for each
-unfoldable pub faultBytes : Status → List ℕ
-faultBytes st =
-    endEach lineFeed
-    ((faultKey ++ showMagnitude digitsMax (numberOf st)) ∷ (lineKey ++ showMagnitude digitsMax (lineOf st)) ∷ [])
 
 -- a job text is read and written again
 unfoldable pub jobStatus : List ℕ → Status
@@ -59,12 +38,3 @@ solveStatus t = andThen (readJob t .status) (runStatus (readJob t .job))
 
 unfoldable pub solveText : List ℕ → List ℕ
 solveText t = runText (readJob t .job)
-
--- what is told of a text in its buffer: its length, or the lines of the fault, from the buffer's start on
-unfoldable pub toldLength : Status → ℕ → ℕ
-toldLength Status.Done len = len
-toldLength (Status.Refused f line) len = length (faultBytes (Status.Refused f line))
-
-unfoldable pub toldIn : Status → List ℕ → List ℕ
-toldIn Status.Done old = old
-toldIn (Status.Refused f line) old = sets old 0 (faultBytes (Status.Refused f line))

@@ -1,15 +1,12 @@
 // From text to text: a job's answer, and both texts written again. A fault of the text is returned and writes nowhere.
 ghost use mathlib.Core.Path.{_≡_};
-ghost use Rattle.jobs.specs.declared.Status.{Status};
 ghost use Rattle.jobs.specs.Words.{faultNumber};
-ghost use Rattle.writing.specs.Wrote.{Wrote};
 ghost use Rattle.writing.specs.Answer.{Leaves};
-ghost use Rattle.desk.specs.Desk.{faultBytes, jobStatus, jobText, resultStatus, resultText, runStatus, runText, solveStatus, solveText, toldLength, toldIn};
+ghost use Rattle.desk.specs.Desk.{jobStatus, jobText, resultStatus, resultText, runStatus, runText, solveStatus, solveText};
 use jobs::Fault;
 use jobs::Job;
 use jobs::Status;
 use writing::Written;
-use writing::put_count_line;
 
 // A result text, read and written again.
 pub fn rewrite_result(text: &[u8], out: &mut [u8]) -> Written
@@ -82,25 +79,5 @@ pub fn fault_number(f: Fault) -> u64
         Fault::Terms => 6,
         Fault::ShortBuffer => 7,
         Fault::Steps => 8,
-    }
-}
-
-fn put_fault(buf: &mut [u8], f: Fault, line: u64) -> usize
-    ensures { λ r. ⌜ Wrote (now (buf .entry)) (now (buf .exit)) 0 r (faultBytes (Status.Refused f line)) ⌝ }
-{
-    let number = fault_number(f);
-    let a = put_count_line(buf, 0, b"fault=", number);
-    put_count_line(buf, a, b"line=", line)
-}
-
-// How many bytes of the buffer tell the answer that stands in it: a text as it is, a fault by two lines.
-pub fn tell(a: Written, out: &mut [u8]) -> usize
-    ensures length { λ r. ⌜ r ≡ toldLength (a .status) (a .len) ⌝ }
-    ensures bytes { λ _. ⌜ now (out .exit) ≡ toldIn (a .status) (now (out .entry)) ⌝ }
-{
-    let status = a.status;
-    match status {
-        Status::Refused(f, line) => put_fault(out, f, line),
-        Status::Done => a.len,
     }
 }

@@ -49,3 +49,9 @@ module _ (a : Written) (old : List ℕ) where
         inside = h;
         whole = sym (length-take-le r new h);
       }
+
+-- any two counts and buffers that are allowed are equal
+pub told-settled : {a : Written} {old new new' : List ℕ} {r r' : ℕ} → Tells a old new r → Tells a old new' r' → (r ≡ r') × (new ≡ new')
+told-settled {a} {old} p q =
+    let n = p .count ∙ sym (q .count) in
+    (n, p .bytes ∙ ap (λ (k : ℕ). toldOf (a .status) (a .len) old ++ drop k old) n ∙ sym (q .bytes))

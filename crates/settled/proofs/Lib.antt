@@ -1,3 +1,4 @@
 pub mod Run
 pub mod Desk
 pub mod ForC
+pub mod Framing
