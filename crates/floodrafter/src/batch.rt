@@ -1,109 +1,267 @@
-// Many requests in one run: a line `OP LENGTH` and LF, then LENGTH bytes. An answer is a line with its length, then its bytes.
-use crate::reading::fill;
-use crate::reading::fitted;
-use crate::reading::kept;
-use crate::reading::next_byte;
-use crate::reading::rest;
-use crate::reading::skip;
-use crate::requests::Op;
-use crate::requests::reply;
-use crate::requests::request_of;
-use libc::STDOUT_FILENO;
+// Many requests in one run, read and written by large blocks. Answers wait until the next read, which could wait itself,
+// or until they fill a block.
+ghost use Prim.Native.Nat.{_+_, _≤_};
+ghost use mathlib.Core.Path.{_≡_};
+ghost use lib.ListN.{length};
+ghost use Rattle.floodrafter.specs.Hand.{inMax, outMax, InHand, Nothing};
+use crate::outcomes::Outcome;
+use crate::outcomes::written;
+use crate::streams::put;
+use crate::streams::read_some;
+use digits::DIGITS;
+use framing::HEADER;
+use framing::Op;
+use framing::Packet;
+use framing::ROOM;
+use framing::Seen;
+use framing::look;
+use framing::put_answer;
+use framing::reply;
+use framing::tell;
+use sizes::TEXT;
+use text::piece_end;
 
-// A line without its LF, and whether it had one.
-pub struct Header {
-    pub len: usize,
-    pub whole: bool,
+const BLOCK: usize = 65536;
+
+const IN: usize = HEADER + TEXT + 1 + BLOCK;
+
+const OUT: usize = BLOCK + ROOM + DIGITS + 1;
+
+// The bytes at..end of the input's block are not yet answered, and the first `used` bytes of the output's not yet written.
+struct Hand {
+    going: bool,
+    outcome: Outcome,
+    at: usize,
+    end: usize,
+    used: usize,
 }
 
-fn read_header(fd: i32, line: &mut [u8]) -> Header {
-    let mut len = 0;
-    while len < line.len() {
-        let next = next_byte(fd);
-        if !next.some {
-            return Header { len, whole: false };
-        }
-        if next.byte == b'\n' {
-            return Header { len, whole: true };
-        }
-        line[len] = next.byte;
-        len += 1;
+// What is known of a block is its length.
+fn in_block() -> [u8; IN]
+    ensures { λ r. ⌜ inMax ≡ length r ⌝ }
+{
+    [0; IN]
+}
+
+fn out_block() -> [u8; OUT]
+    ensures { λ r. ⌜ outMax ≡ length r ⌝ }
+{
+    [0; OUT]
+}
+
+fn going(at: usize, end: usize, used: usize) -> Hand
+    ensures { λ r. ⌜ (r .at ≡ at) × (r .end ≡ end) × (r .used ≡ used) ⌝ }
+{
+    Hand {
+        going: true,
+        outcome: Outcome::Answered,
+        at,
+        end,
+        used,
     }
-    Header { len, whole: false }
 }
 
-// Each ends the run.
-fn bad_header() -> bool {
-    io::write_all(
-        STDOUT_FILENO,
+fn ended(outcome: Outcome) -> Hand
+    ensures { λ r. ⌜ Nothing r ⌝ }
+{
+    Hand {
+        going: false,
+        outcome,
+        at: 0,
+        end: 0,
+        used: 0,
+    }
+}
+
+fn bad_line() -> Hand
+    ensures { λ r. ⌜ Nothing r ⌝ }
+{
+    let whole = put(
         b"error=expected a line of solve, job or result, one space and a length in digits\n",
     );
-    false
+    ended(written(whole, Outcome::NotRun))
 }
 
-fn bad_text() -> bool {
-    io::write_all(
-        STDOUT_FILENO,
-        b"error=expected as many bytes of text as the length says\n",
-    );
-    false
+fn bad_text() -> Hand
+    ensures { λ r. ⌜ Nothing r ⌝ }
+{
+    let whole = put(b"error=expected as many bytes of text as the length says\n");
+    ended(written(whole, Outcome::NotRun))
 }
 
-fn respond(op: Op, text: &[u8]) {
-    let mut out = io::buffer();
-    let a = reply(op, text, &mut out);
-    let k = desk::tell(a, &mut out);
-    let n = fitted(k, &out);
-    io::print_decimal(STDOUT_FILENO, n as u64);
-    io::write_all(STDOUT_FILENO, b"\n");
-    io::write_all(STDOUT_FILENO, &out[..n]);
+fn bad_request(out: &[u8], h: Hand) -> Hand
+    requires { ⌜ h .used ≤ length (now out) ⌝ }
+    ensures { λ r. ⌜ Nothing r ⌝ }
+{
+    let used = h.used;
+    if put(&out[0..used]) {
+        return bad_line();
+    }
+    ended(Outcome::Unwritten)
 }
 
-// The text of a request, and its answer.
-fn text_of(fd: i32, op: Op, length: u64) -> bool {
-    let mut buf = io::buffer();
-    let want = kept(length);
-    let k = fill(fd, want, &mut buf);
-    if k != want {
+// The input has ended, and these bytes are at hand.
+fn at_end(have: &[u8]) -> Hand
+    ensures { λ r. ⌜ Nothing r ⌝ }
+{
+    if have.len() == 0 {
+        return ended(Outcome::Answered);
+    }
+    if piece_end(have, 0, b'\n') < have.len() {
         return bad_text();
     }
-    if !skip(fd, rest(length)) {
-        return bad_text();
-    }
-    let n = fitted(k, &buf);
-    respond(op, &buf[..n]);
-    true
+    bad_line()
 }
 
-fn asked(fd: i32, op: Op, length: u64) -> bool {
-    match op {
-        Op::Solve => text_of(fd, Op::Solve, length),
-        Op::Job => text_of(fd, Op::Job, length),
-        Op::Result => text_of(fd, Op::Result, length),
-        Op::Unknown => bad_header(),
+fn to_front(have: &mut [u8], at: usize, end: usize) -> usize
+    requires { ⌜ at ≤ end ⌝ }
+    requires { ⌜ end ≤ length (now have) ⌝ }
+    ensures { λ r. ⌜ r ≤ end ⌝ }
+{
+    let mut i = 0;
+    let mut from = at;
+    while from < end {
+        have[i] = have[from];
+        i += 1;
+        from += 1;
     }
+    i
 }
 
-// One request; false where the run ends.
-fn one(fd: i32) -> bool {
-    let mut line = [0u8; 64];
-    let h = read_header(fd, &mut line);
-    let n = fitted(h.len, &line);
-    if !h.whole {
-        if n == 0 {
-            return false;
+// More of the input behind what is at hand, once the answers are written.
+fn more(fd: i32, have: &mut [u8], out: &[u8], h: Hand) -> Hand
+    requires { ⌜ InHand h (length (now have)) ⌝ }
+    requires { ⌜ outMax ≤ length (now out) ⌝ }
+    ensures { λ r. ⌜ InHand r (length (now (have .entry))) ⌝ }
+{
+    let used = h.used;
+    if !put(&out[0..used]) {
+        return ended(Outcome::Unwritten);
+    }
+    let n = to_front(have, h.at, h.end);
+    let came = read_some(fd, &mut have[n..]);
+    if came.failed {
+        return ended(Outcome::Unread);
+    }
+    if came.n == 0 {
+        return at_end(&have[0..n]);
+    }
+    going(0, n + came.n, 0)
+}
+
+fn least(left: u64, room: usize) -> usize
+    ensures { λ r. ⌜ (r ≤ room) × (r ≤ left) ⌝ }
+{
+    if left < room as u64 {
+        return left as usize;
+    }
+    room
+}
+
+fn skip(fd: i32, have: &mut [u8], length: u64) -> Hand
+    ensures { λ r. ⌜ Nothing r ⌝ }
+{
+    let mut left = length;
+    while left > 0 {
+        let want = least(left, have.len());
+        let came = read_some(fd, &mut have[0..want]);
+        if came.failed {
+            return ended(Outcome::Unread);
         }
-        return bad_header();
+        if came.n == 0 {
+            return bad_text();
+        }
+        left -= came.n as u64;
     }
-    let r = request_of(&line[..n]);
-    let op = r.op;
-    asked(fd, op, r.length)
+    going(0, 0, 0)
+}
+
+// Behind what is kept of a text, `passed` bytes are passed over.
+fn pass(fd: i32, have: &mut [u8], out: &[u8], h: Hand, passed: u64) -> Hand
+    requires { ⌜ InHand h (length (now have)) ⌝ }
+    requires { ⌜ outMax ≤ length (now out) ⌝ }
+    ensures { λ r. ⌜ InHand r (length (now (have .entry))) ⌝ }
+{
+    let here = (h.end - h.at) as u64;
+    if passed <= here {
+        return going(h.at + passed as usize, h.end, h.used);
+    }
+    let used = h.used;
+    if !put(&out[0..used]) {
+        return ended(Outcome::Unwritten);
+    }
+    skip(fd, have, passed - here)
+}
+
+fn answer(op: Op, text: &[u8], room: &mut [u8; ROOM]) -> usize
+    ensures { λ r. ⌜ r ≤ length (now (room .exit)) ⌝ }
+{
+    let a = reply(op, text, room);
+    tell(a, room)
+}
+
+// The first n bytes of the room are an answer.
+fn add(out: &mut [u8], h: Hand, room: &[u8; ROOM], n: usize) -> Hand
+    requires { ⌜ InHand h (h .end) ⌝ }
+    requires { ⌜ outMax ≤ length (now out) ⌝ }
+    requires { ⌜ n ≤ length (now room) ⌝ }
+    ensures { λ r. ⌜ InHand r (h .end) ⌝ }
+{
+    let whole = &room[..];
+    let used = put_answer(out, h.used, &whole[0..n]);
+    if used <= BLOCK {
+        return going(h.at, h.end, used);
+    }
+    if put(&out[0..used]) {
+        return going(h.at, h.end, 0);
+    }
+    ended(Outcome::Unwritten)
+}
+
+// The answer is added once all of its request has come.
+fn ask(fd: i32, have: &mut [u8], out: &mut [u8], h: Hand, op: Op, p: Packet) -> Hand
+    requires { ⌜ InHand h (length (now have)) ⌝ }
+    requires { ⌜ outMax ≤ length (now out) ⌝ }
+    requires { ⌜ (p .from ≤ p .to) × (h .at + p .to ≤ h .end) ⌝ }
+    ensures { λ r. ⌜ InHand r (length (now (have .entry))) ⌝ }
+{
+    let from = h.at + p.from;
+    let to = h.at + p.to;
+    let mut room = [0u8; ROOM];
+    let n = answer(op, &have[from..to], &mut room);
+    let next = pass(fd, have, out, going(to, h.end, h.used), p.passed);
+    if next.going {
+        return add(out, next, &room, n);
+    }
+    next
+}
+
+// What the bytes at hand ask for next.
+fn turn(fd: i32, have: &mut [u8], out: &mut [u8], h: Hand) -> Hand
+    requires { ⌜ InHand h (length (now have)) ⌝ }
+    requires { ⌜ outMax ≤ length (now out) ⌝ }
+    ensures { λ r. ⌜ InHand r (length (now (have .entry))) ⌝ }
+{
+    let at = h.at;
+    let end = h.end;
+    let p = look(&have[at..end]);
+    let seen = p.seen;
+    match seen {
+        Seen::More => more(fd, have, out, h),
+        Seen::Bad => bad_request(out, h),
+        Seen::Ask(op) => ask(fd, have, out, h, op, p),
+    }
 }
 
 // Nothing says that the input ends, so the turns are counted down from a number that no run uses up.
-pub fn all(fd: i32) {
+pub fn all(fd: i32) -> Outcome {
+    let mut have = in_block();
+    let mut out = out_block();
+    let mut h = going(0, 0, 0);
     let mut turns = u64::MAX;
-    while turns > 0 && one(fd) {
+    while turns > 0 && h.going {
+        h = turn(fd, &mut have, &mut out, h);
         turns -= 1;
     }
+    h.outcome
 }

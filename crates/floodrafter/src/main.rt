@@ -1,97 +1,135 @@
 // The program floodrafter: texts in, texts out, over the proved desk.
 mod batch;
+mod commands;
+mod help;
+mod outcomes;
 mod people;
 mod places;
-mod reading;
-mod requests;
 mod sentences;
 mod slips;
+mod streams;
 
+use commands::Command;
+use commands::Work;
+use commands::command_of;
+use commands::too_many;
+use commands::unknown;
+use commands::wrong_call;
 use libc::STDIN_FILENO;
 use libc::STDOUT_FILENO;
-use requests::Op;
+use outcomes::Outcome;
+use outcomes::hand_over;
+use outcomes::written;
+use streams::say;
 use text::same_bytes;
 
-enum Call {
-    Solve,
-    Job,
-    Result,
-    Batch,
-    Version,
-    Help,
+fn fail(name: &[u8]) {
+    say(b"floodrafter: ");
+    os::fail(name);
 }
 
-fn call_of(word: &[u8]) -> Call {
-    if same_bytes(word, b"solve") {
-        return Call::Solve;
+// What the system refused is told by the name of what it was refused of.
+fn told(outcome: Outcome, name: &[u8]) -> Outcome {
+    match outcome {
+        Outcome::Answered => {}
+        Outcome::Fault => {}
+        Outcome::NotRun => {}
+        Outcome::Unread => fail(name),
+        Outcome::Unwritten => fail(b"standard output"),
     }
-    if same_bytes(word, b"job") {
-        return Call::Job;
-    }
-    if same_bytes(word, b"result") {
-        return Call::Result;
-    }
-    if same_bytes(word, b"batch") {
-        return Call::Batch;
-    }
-    if same_bytes(word, b"version") {
-        return Call::Version;
-    }
-    Call::Help
+    outcome
 }
 
-fn answer(call: Call, fd: i32, name: &[u8]) {
-    match call {
-        Call::Solve => people::one(Op::Solve, fd, name),
-        Call::Job => people::one(Op::Job, fd, name),
-        Call::Result => people::one(Op::Result, fd, name),
-        Call::Batch => batch::all(fd),
-        Call::Version => {
-            io::write_all(STDOUT_FILENO, b"floodrafter 1\n");
-        }
-        Call::Help => people::help(),
+fn answer(work: Work, fd: i32, name: &[u8]) -> Outcome {
+    let outcome = match work {
+        Work::Reply(op) => people::one(op, fd, name),
+        Work::Batch => batch::all(fd),
+    };
+    told(outcome, name)
+}
+
+fn on_file(work: Work, path: &[u8]) -> Outcome {
+    let fd = os::open_read(path);
+    if fd < 0 {
+        return told(Outcome::Unread, path);
     }
+    let outcome = answer(work, fd, path);
+    libc::close(fd);
+    outcome
 }
 
-// A directory opens, and fails at the first read.
-fn readable(fd: i32) -> bool {
-    let mut none = [0u8; 1];
-    libc::read(fd, &mut none[..0]) >= 0
-}
-
-// On the file that the second argument names.
-fn answer_file(call: Call) {
+fn on_argument(work: Work) -> Outcome {
     let mut path = io::buffer();
     let n = os::arg(2, &mut path);
     if os::errno() != 0 {
-        os::fail(b"FILE");
-        return;
+        return told(Outcome::Unread, b"FILE");
     }
-    let fd = os::open_read(&path[..n]);
-    if fd < 0 {
-        os::fail(&path[..n]);
-        return;
+    if same_bytes(&path[..n], b"-") {
+        return answer(work, STDIN_FILENO, b"standard input");
     }
-    if readable(fd) {
-        answer(call, fd, &path[..n]);
-    } else {
-        os::fail(&path[..n]);
+    on_file(work, &path[..n])
+}
+
+fn read(work: Work, count: usize) -> Outcome {
+    if count == 2 {
+        return answer(work, STDIN_FILENO, b"standard input");
     }
-    libc::close(fd);
+    if count == 3 {
+        return on_argument(work);
+    }
+    too_many()
+}
+
+fn shown(whole: bool) -> Outcome {
+    told(written(whole, Outcome::Answered), b"")
+}
+
+fn help_on(word: &[u8]) -> Outcome {
+    if same_bytes(word, b"batch") {
+        return shown(help::packets(STDOUT_FILENO));
+    }
+    let command = command_of(word);
+    match command {
+        Command::Unknown => unknown(word),
+        _ => shown(help::commands(STDOUT_FILENO)),
+    }
+}
+
+fn show_help(count: usize) -> Outcome {
+    if count == 2 {
+        return shown(help::commands(STDOUT_FILENO));
+    }
+    if count == 3 {
+        let mut word = io::buffer();
+        let n = os::arg(2, &mut word);
+        return help_on(&word[..n]);
+    }
+    too_many()
+}
+
+fn show_version(count: usize) -> Outcome {
+    if count == 2 {
+        return shown(help::version(STDOUT_FILENO));
+    }
+    too_many()
+}
+
+fn run() -> Outcome {
+    let count = os::arg_count();
+    if count < 2 {
+        return wrong_call();
+    }
+    let mut word = io::buffer();
+    let n = os::arg(1, &mut word);
+    let command = command_of(&word[..n]);
+    match command {
+        Command::Read(work) => read(work, count),
+        Command::Help => show_help(count),
+        Command::Version => show_version(count),
+        Command::Unknown => unknown(&word[..n]),
+    }
 }
 
 fn main() {
-    let mut word = io::buffer();
-    let n = os::arg(1, &mut word);
-    let call = call_of(&word[..n]);
-    let count = os::arg_count();
-    if count == 2 {
-        answer(call, STDIN_FILENO, b"standard input");
-        return;
-    }
-    if count == 3 {
-        answer_file(call);
-        return;
-    }
-    people::help();
+    hand_over(run());
 }

@@ -1,19 +1,21 @@
-// For people: one text's answer, a plain sentence beside a fault, and the help.
-use crate::reading::fill;
-use crate::reading::fitted;
-use crate::requests::Op;
-use crate::requests::reply;
+// For people: one text's answer, and a plain sentence beside a fault.
+use crate::outcomes::Outcome;
 use crate::sentences::expected;
-use crate::sentences::say;
-use crate::sentences::say_number;
+use crate::streams::fill;
+use crate::streams::put;
+use crate::streams::say;
+use crate::streams::say_number;
+use framing::Op;
+use framing::ROOM;
+use framing::reply;
+use framing::tell;
 use jobs::Status;
-use libc::STDOUT_FILENO;
 use sizes::TEXT;
 
 // On standard error, as `job.txt:8: fault 6: ..`.
-fn explain(op: Op, status: Status, name: &[u8], text: &[u8]) {
+fn explain(op: Op, status: Status, name: &[u8], text: &[u8]) -> Outcome {
     match status {
-        Status::Done => {}
+        Status::Done => Outcome::Answered,
         Status::Refused(f, line) => {
             say(name);
             if line > 0 {
@@ -25,49 +27,25 @@ fn explain(op: Op, status: Status, name: &[u8], text: &[u8]) {
             say(b": ");
             expected(op, f, line, text);
             say(b"\n");
+            Outcome::Fault
         }
     }
 }
 
-fn respond(op: Op, text: &[u8]) -> Status {
-    let mut out = io::buffer();
-    let a = reply(op, text, &mut out);
-    let status = a.status;
-    let k = desk::tell(a, &mut out);
-    let n = fitted(k, &out);
-    io::write_all(STDOUT_FILENO, &out[..n]);
-    status
-}
-
 // Of a text that is too long, one byte more than may be is read.
-pub fn one(op: Op, fd: i32, name: &[u8]) {
-    let mut buf = io::buffer();
-    let k = fill(fd, TEXT + 1, &mut buf);
-    let n = fitted(k, &buf);
-    let status = respond(op, &buf[..n]);
-    explain(op, status, name, &buf[..n]);
-}
-
-pub fn help() {
-    io::write_all(
-        STDOUT_FILENO,
-        b"floodrafter solve [FILE]    the result of a job text, or its fault and line\n",
-    );
-    io::write_all(
-        STDOUT_FILENO,
-        b"floodrafter job [FILE]      reads a job text and writes it again\n",
-    );
-    io::write_all(
-        STDOUT_FILENO,
-        b"floodrafter result [FILE]   reads a result text and writes it again\n",
-    );
-    io::write_all(
-        STDOUT_FILENO,
-        b"floodrafter batch [FILE]    many requests in one run\n",
-    );
-    io::write_all(STDOUT_FILENO, b"floodrafter help, floodrafter version\n");
-    io::write_all(
-        STDOUT_FILENO,
-        b"Without FILE, standard input is read. A fault is two lines, fault=N and line=L; there is no exit status that tells it.\n",
-    );
+pub fn one(op: Op, fd: i32, name: &[u8]) -> Outcome {
+    let mut buf = [0u8; TEXT + 1];
+    let came = fill(fd, &mut buf);
+    if came.failed {
+        return Outcome::Unread;
+    }
+    let n = came.n;
+    let mut out = [0u8; ROOM];
+    let a = reply(op, &buf[0..n], &mut out);
+    let status = a.status;
+    let k = tell(a, &mut out);
+    if put(&out[0..k]) {
+        return explain(op, status, name, &buf[0..n]);
+    }
+    Outcome::Unwritten
 }

@@ -1,9 +1,10 @@
 // Where things stand in a job text whose line at fault is told: the lines before it are right.
 ghost use Prim.Native.Nat.{_≤_};
+ghost use lib.ListN.{length};
 ghost use Rattle.sizes.specs.Sizes.{nMax};
-use crate::reading::fitted;
 use jobs::Kind;
 use sizes::N;
+use text::piece_end;
 use text::starts;
 
 // What says how many lines the system has, and of which kind.
@@ -13,7 +14,9 @@ pub struct Layout {
 }
 
 // Where line number `line`, counted from 1, begins.
-fn line_start(text: &[u8], line: u64) -> usize {
+fn line_start(text: &[u8], line: u64) -> usize
+    ensures { λ r. ⌜ r ≤ length (now (text .entry)) ⌝ }
+{
     let mut left = line;
     let mut at = 0;
     while at < text.len() {
@@ -28,25 +31,12 @@ fn line_start(text: &[u8], line: u64) -> usize {
     at
 }
 
-fn line_end(text: &[u8]) -> usize {
-    let mut at = 0;
-    while at < text.len() {
-        if text[at] == b'\n' {
-            return at;
-        }
-        at += 1;
-    }
-    at
-}
-
 // A line without its LF.
 pub fn line_at(text: &[u8], line: u64) -> &[u8] {
-    let k = line_start(text, line);
-    let from = fitted(k, text);
+    let from = line_start(text, line);
     let rest = &text[from..];
-    let k = line_end(rest);
-    let to = fitted(k, rest);
-    &rest[..to]
+    let to = piece_end(rest, 0, b'\n');
+    &rest[0..to]
 }
 
 fn kind_of(line: &[u8]) -> Kind {

@@ -4,13 +4,14 @@ ghost use Rattle.sizes.specs.Sizes.{nMax};
 use crate::places::Layout;
 use crate::places::layout_of;
 use crate::places::line_at;
-use crate::requests::Op;
 use crate::slips::Slip;
 use crate::slips::slip_of;
+use crate::streams::say;
+use crate::streams::say_number;
 use digits::DIGITS;
+use framing::Op;
 use jobs::Fault;
 use jobs::Kind;
-use libc::STDERR_FILENO;
 use sizes::DEGREE;
 use sizes::END;
 use sizes::ENTRY;
@@ -19,14 +20,6 @@ use sizes::NUMBER;
 use sizes::STEPS;
 use sizes::TERMS;
 use sizes::TEXT;
-
-pub fn say(words: &[u8]) {
-    io::write_all(STDERR_FILENO, words);
-}
-
-pub fn say_number(v: u64) {
-    io::print_decimal(STDERR_FILENO, v);
-}
 
 fn at_most(words: &[u8], most: u64, end: &[u8]) {
     say(words);
@@ -121,7 +114,6 @@ fn spelling(op: Op, line: u64, text: &[u8]) {
         Op::Result => result_line(line),
         Op::Solve => job_line(line, text),
         Op::Job => job_line(line, text),
-        Op::Unknown => {}
     }
 }
 

@@ -1,12 +1,12 @@
--- `floodrafter::places::line_start` is safe and ends.
-use Prim.Native.Nat.{_-_}
+-- `floodrafter::places::line_start` meets its contract.
+use Prim.Native.Nat.{_-_, _≤_}
 use lib.ListN.{length}
 use borrow.Author.Needs.{needs}
 use Rattle.floodrafter.proofs.places.line_start.Statement.{statement}
 use Rattle.floodrafter.proofs.places.line_start.Tie as tie
 
 abbrev Inv-loop : tie.InvT-loop
-Inv-loop text line left₀ at₀ left at = Unit {0}
+Inv-loop text line left₀ at₀ left at = at ≤ length text
 
 abbrev μ-loop : tie.MeasureT-loop
 μ-loop text line left₀ at₀ left at = length text - at

@@ -1,22 +1,21 @@
--- `floodrafter::batch::read_header` is safe and ends: the room that is left falls.
-use Prim.Native.Nat.{_-_}
+-- `floodrafter::streams::read_once` is safe and ends: the turns that are left fall.
 use mathlib.Core.Path.{_≡_}
 use lib.ListN.{length}
 use borrow.Author.Needs.{needs}
-use Rattle.floodrafter.proofs.batch.read_header.Statement.{statement}
-use Rattle.floodrafter.proofs.batch.read_header.Tie as tie
+use Rattle.floodrafter.proofs.streams.read_once.Statement.{statement}
+use Rattle.floodrafter.proofs.streams.read_once.Tie as tie
 
 abbrev Inv-loop : tie.InvT-loop
-Inv-loop fd line₀ len₀ line len = length line ≡ length line₀
+Inv-loop fd buf₀ turns₀ buf turns = length buf ≡ length buf₀
 
 abbrev μ-loop : tie.MeasureT-loop
-μ-loop fd line₀ len₀ line len = length line₀ - len
+μ-loop fd buf₀ turns₀ buf turns = turns
 
 loop-holds : tie.Need-loop-holds Inv-loop μ-loop
 loop-holds c = search needs
 
-next-byte-requires : tie.Need-next-byte-requires Inv-loop μ-loop
-next-byte-requires c κs = search needs
+read-requires : tie.Need-read-requires Inv-loop μ-loop
+read-requires c κs = search needs
 
 same-length : tie.Need-same-length Inv-loop μ-loop
 same-length c = search needs
@@ -24,17 +23,17 @@ same-length c = search needs
 returns : tie.Need-returns Inv-loop μ-loop
 returns c = search needs
 
+again-requires : tie.Need-again-requires Inv-loop μ-loop
+again-requires c κs = search needs
+
 same-length-2 : tie.Need-same-length-2 Inv-loop μ-loop
 same-length-2 c = search needs
 
 returns-2 : tie.Need-returns-2 Inv-loop μ-loop
 returns-2 c = search needs
 
-slice-write-line : tie.Need-slice-write-line Inv-loop μ-loop
-slice-write-line c = search needs
-
-add-len : tie.Need-add-len Inv-loop μ-loop
-add-len c = search needs
+sub-turns : tie.Need-sub-turns Inv-loop μ-loop
+sub-turns c = search needs
 
 loop-less : tie.Need-loop-less Inv-loop μ-loop
 loop-less c = search needs
@@ -48,20 +47,20 @@ same-length-3 c = search needs
 returns-3 : tie.Need-returns-3 Inv-loop μ-loop
 returns-3 c = search needs
 
-pub read-header-spec : {M : Type 1} → statement M
-read-header-spec =
+pub read-once-spec : {M : Type 1} → statement M
+read-once-spec =
     tie.close
     (tie.spec
     Inv-loop
     μ-loop
     loop-holds
-    next-byte-requires
+    read-requires
     same-length
     returns
+    again-requires
     same-length-2
     returns-2
-    slice-write-line
-    add-len
+    sub-turns
     loop-less
     loop-again
     same-length-3

@@ -1,0 +1,61 @@
+// The commands, and what is said of a call that names none of them.
+use crate::help;
+use crate::outcomes::Outcome;
+use crate::streams::say;
+use framing::Op;
+use libc::STDERR_FILENO;
+use text::same_bytes;
+
+// What reads a FILE.
+pub enum Work {
+    Reply(Op),
+    Batch,
+}
+
+pub enum Command {
+    Read(Work),
+    Help,
+    Version,
+    Unknown,
+}
+
+// The one table of the commands.
+pub fn command_of(word: &[u8]) -> Command {
+    if same_bytes(word, b"solve") {
+        return Command::Read(Work::Reply(Op::Solve));
+    }
+    if same_bytes(word, b"job") {
+        return Command::Read(Work::Reply(Op::Job));
+    }
+    if same_bytes(word, b"result") {
+        return Command::Read(Work::Reply(Op::Result));
+    }
+    if same_bytes(word, b"batch") {
+        return Command::Read(Work::Batch);
+    }
+    if same_bytes(word, b"help") || same_bytes(word, b"--help") || same_bytes(word, b"-h") {
+        return Command::Help;
+    }
+    if same_bytes(word, b"version") || same_bytes(word, b"--version") {
+        return Command::Version;
+    }
+    Command::Unknown
+}
+
+// The help stands behind what is said of a wrong call.
+pub fn wrong_call() -> Outcome {
+    help::commands(STDERR_FILENO);
+    Outcome::NotRun
+}
+
+pub fn unknown(word: &[u8]) -> Outcome {
+    say(b"floodrafter: there is no command '");
+    say(word);
+    say(b"'\n");
+    wrong_call()
+}
+
+pub fn too_many() -> Outcome {
+    say(b"floodrafter: too many arguments\n");
+    wrong_call()
+}
