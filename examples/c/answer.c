@@ -1,4 +1,5 @@
-/* Answers the job text in a file: the result on standard output, or the fault on standard error and exit status 1. */
+/* Answers the job text in a file: the result on standard output, or the fault on standard error.
+   Exit status, as ./floodrafter has it: 0 answered, 1 a fault, 2 not run. */
 #include "floodrafter.h"
 
 #include <inttypes.h>
@@ -32,6 +33,9 @@ int main(int argc, char **argv)
         fprintf(stderr, "%s:%" PRIu64 ": fault %" PRIu64 "\n", argv[1], a.line, a.fault);
         return 1;
     }
-    fwrite(out, 1, a.len, stdout);
+    if (fwrite(out, 1, a.len, stdout) != a.len || fflush(stdout) != 0) {
+        perror("standard output");
+        return 2;
+    }
     return 0;
 }
