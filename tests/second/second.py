@@ -18,7 +18,7 @@ from cases import write_cases
 from texts import answer
 
 OPERATIONS = ("solve", "job", "result")
-HEADER = 64                    # more bytes than any header line of a request needs
+HEADER = 4_096                 # bytes of a request's line, its line feed among them
 CHUNK = 65_536
 
 EXPECTED_HEADER = "a line of solve, job or result, one space and a length in digits"
