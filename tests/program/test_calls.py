@@ -1,0 +1,124 @@
+"""The commands, FILE and standard input, wrong calls, and the script that makes the call."""
+
+import os
+import signal
+import subprocess
+import tempfile
+import unittest
+from pathlib import Path
+
+from calls import EXAMPLES, JOB, PROGRAM, RESULT, WAIT, call, call_by_shell, request, packet, start
+
+JOB_FILE = str(EXAMPLES / "job41.txt")
+RESULT_FILE = str(EXAMPLES / "job41.out")
+
+
+class Commands(unittest.TestCase):
+    """What each command writes."""
+
+    def test_texts(self):
+        for command, text, answer in (("solve", JOB, RESULT), ("job", JOB, JOB), ("result", RESULT, RESULT),
+                                      ("batch", request("job", JOB), packet(JOB))):
+            self.assertEqual(call(command, given=text), (0, answer, ""))
+            self.assertEqual(call(command, "-", given=text), (0, answer, ""))
+
+    def test_files(self):
+        self.assertEqual(call("solve", JOB_FILE), (0, RESULT, ""))
+        self.assertEqual(call("job", JOB_FILE), (0, JOB, ""))
+        self.assertEqual(call("result", RESULT_FILE), (0, RESULT, ""))
+        with tempfile.NamedTemporaryFile() as file:
+            file.write(request("solve", JOB) * 2)
+            file.flush()
+            self.assertEqual(call("batch", file.name), (0, packet(RESULT) * 2, ""))
+
+    def test_examples(self):
+        for job in sorted(EXAMPLES.glob("*.txt")):
+            answer = job.with_suffix(".out").read_bytes()
+            ended = call("solve", str(job))
+            self.assertEqual((ended.status, ended.out), (1 if answer.startswith(b"fault=") else 0, answer))
+
+    def test_fault_of_a_file(self):
+        ended = call("solve", RESULT_FILE)
+        self.assertEqual(ended.status, 1)
+        self.assertTrue(ended.err.startswith(f"{RESULT_FILE}:2: fault 2: expected kind="), ended.err)
+
+    def test_version(self):
+        for word in ("version", "--version"):
+            self.assertEqual(call(word), (0, b"floodrafter 1\n", ""))
+
+    def test_help(self):
+        page = call("help")
+        self.assertEqual((page.status, page.err), (0, ""))
+        for command in (b"solve", b"job", b"result", b"batch", b"help", b"version"):
+            self.assertIn(b"floodrafter " + command, page.out)
+        self.assertIn(b"Exit status: 0 answered; 1 a fault; 2 not run", page.out)
+        for words in (("--help",), ("-h",), ("help", "solve"), ("help", "help")):
+            self.assertEqual(call(*words), page)
+
+    def test_help_on_batch(self):
+        page = call("help", "batch")
+        self.assertEqual((page.status, page.err), (0, ""))
+        for fact in (b"OP LENGTH", b"4096", b"error="):
+            self.assertIn(fact, page.out)
+
+
+class WrongCalls(unittest.TestCase):
+    """Each is told on standard error, with the help behind it."""
+
+    def refuses(self, words, said):
+        """Nothing on standard output, and exit status 2."""
+        self.assertEqual(call(*words, given=JOB), (2, b"", said + call("help").out.decode()))
+
+    def test_command(self):
+        self.refuses((), "")
+        for word in ("sovle", "", "Solve", "solve ", "--", "-", "-v"):
+            self.refuses((word,), f"floodrafter: there is no command '{word}'\n")
+        self.refuses(("sovle", JOB_FILE), "floodrafter: there is no command 'sovle'\n")
+        self.refuses(("help", "sovle"), "floodrafter: there is no command 'sovle'\n")
+
+    def test_arguments(self):
+        for words in (("solve", JOB_FILE, JOB_FILE), ("batch", "-", "-"), ("version", "1"), ("help", "batch", "1")):
+            self.refuses(words, "floodrafter: too many arguments\n")
+
+
+class Script(unittest.TestCase):
+    """./floodrafter from elsewhere, and what it makes of the program's end."""
+
+    def test_from_elsewhere(self):
+        with tempfile.TemporaryDirectory() as folder:
+            link = Path(folder) / "link"
+            link.symlink_to(PROGRAM)
+            for command in ([PROGRAM], [str(link)], ["sh", PROGRAM]):
+                done = subprocess.run([*command, "solve", "-"], input=JOB, cwd=folder, capture_output=True, check=True)
+                self.assertEqual(done.stdout, RESULT)
+            path = {**os.environ, "PATH": f"{Path(PROGRAM).parent}:{os.environ['PATH']}"}
+            done = subprocess.run(["floodrafter", "solve", "-"], input=JOB, cwd=folder, capture_output=True, env=path,
+                                  check=True)
+            self.assertEqual(done.stdout, RESULT)
+
+    def test_killed(self):
+        run = start("batch")
+        run.stdin.write(request("solve", JOB))
+        run.stdin.flush()
+        self.assertEqual(run.stdout.read(len(packet(RESULT))), packet(RESULT))
+        os.kill(child_of(run.pid), signal.SIGTERM)
+        self.assertEqual(run.wait(WAIT), 128 + signal.SIGTERM)
+        for stream in (run.stdin, run.stdout, run.stderr):
+            stream.close()
+
+    def test_descriptors(self):
+        for closed in ("3>&-", "3</dev/null 4</dev/null", "2>&-", "3>&- 4>&- 2>&-"):
+            self.assertEqual(call_by_shell(closed, "solve", JOB_FILE), (0, RESULT, ""))
+        self.assertEqual(call_by_shell("<&-", "solve", JOB_FILE), (0, RESULT, ""))
+
+
+def child_of(pid):
+    """The process that a process has started."""
+    for entry in Path("/proc").glob("[0-9]*/stat"):
+        try:
+            fields = entry.read_text().rpartition(")")[2].split()
+        except OSError:
+            continue
+        if int(fields[1]) == pid:
+            return int(entry.parent.name)
+    raise ProcessLookupError(pid)
