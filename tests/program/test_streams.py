@@ -1,6 +1,7 @@
 """What cannot be read or written is told on standard error, with exit status 2; what is not ready is waited for."""
 
 import os
+import socket
 import subprocess
 import tempfile
 import threading
@@ -55,6 +56,32 @@ class Reading(unittest.TestCase):
             out, err = run.communicate(timeout=WAIT)
             self.assertEqual((run.returncode, out, err), (0, RESULT, b""))
             os.close(ends[0])
+
+    def test_waiting_costs_nothing(self):
+        reading, writing = pipe_not_waiting(0)
+        before = os.times()
+        run = start("batch", stdin=reading)
+        time.sleep(1)
+        os.close(writing)
+        self.assertEqual(run.communicate(timeout=WAIT), (b"", b""))
+        after = os.times()
+        os.close(reading)
+        spent = after.children_user + after.children_system - before.children_user - before.children_system
+        self.assertLess(spent, 0.5)
+
+    def test_socket(self):
+        ours, its = socket.socketpair()
+        its.setblocking(False)
+        run = start("batch", stdin=its, stdout=its)
+        for _ in range(3):
+            ours.sendall(request("solve", JOB))
+            self.assertEqual(ours.recv(1_000), packet(RESULT))
+            time.sleep(0.05)
+        ours.shutdown(socket.SHUT_WR)
+        self.assertEqual(run.communicate(timeout=WAIT), (None, b""))
+        self.assertEqual(run.returncode, 0)
+        ours.close()
+        its.close()
 
     def test_longest(self):
         self.assertEqual(call("job", given=b"x" * MAX_TEXT).out, b"fault=2\nline=1\n")

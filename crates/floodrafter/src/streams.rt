@@ -4,6 +4,7 @@ ghost use lib.ListN.{length};
 use libc::EAGAIN;
 use libc::EINTR;
 use libc::STDERR_FILENO;
+use libc::STDIN_FILENO;
 use libc::STDOUT_FILENO;
 
 // How many bytes came, none where the input has ended or the read failed.
@@ -12,14 +13,46 @@ pub struct Came {
     pub failed: bool,
 }
 
-// Whether the call that failed just now is made again.
-fn again() -> bool {
-    let error = os::errno();
-    if error == EAGAIN {
-        libc::sched_yield();
-        return true;
+// A call that fails so is made again.
+fn passing(error: i32) -> bool {
+    error == EINTR || error == EAGAIN
+}
+
+// The standard streams by their names. A stream that does not wait is shared with who set it so; opened anew, a pipe and a
+// terminal wait.
+fn open_anew(fd: i32) -> i32 {
+    if fd == STDIN_FILENO {
+        return os::open_read(b"/proc/self/fd/0");
     }
-    error == EINTR
+    if fd == STDOUT_FILENO {
+        return os::open_append(b"/proc/self/fd/1");
+    }
+    if fd == STDERR_FILENO {
+        return os::open_append(b"/proc/self/fd/2");
+    }
+    -1
+}
+
+// What waits in place of fd, which was not ready. Where it cannot be opened, as a socket, others run first.
+fn in_place(fd: i32, error: i32) -> i32 {
+    if error == EINTR {
+        return -1;
+    }
+    let anew = open_anew(fd);
+    if anew < 0 {
+        libc::sched_yield();
+    }
+    anew
+}
+
+fn read_waiting(fd: i32, error: i32, buf: &mut [u8]) -> isize {
+    let anew = in_place(fd, error);
+    if anew < 0 {
+        return -1;
+    }
+    let got = libc::read(anew, buf);
+    libc::close(anew);
+    got
 }
 
 // Nothing says that such calls end, so the turns are counted down from a number that no run uses up.
@@ -30,8 +63,13 @@ fn read_once(fd: i32, buf: &mut [u8]) -> isize {
         if got >= 0 {
             return got;
         }
-        if !again() {
+        let error = os::errno();
+        if !passing(error) {
             return -1;
+        }
+        let got = read_waiting(fd, error, buf);
+        if got >= 0 {
+            return got;
         }
         turns -= 1;
     }
@@ -65,6 +103,16 @@ pub fn fill(fd: i32, buf: &mut [u8]) -> Came
     Came { n, failed: false }
 }
 
+fn write_waiting(fd: i32, error: i32, bytes: &[u8]) -> isize {
+    let anew = in_place(fd, error);
+    if anew < 0 {
+        return -1;
+    }
+    let put = libc::write(anew, bytes);
+    libc::close(anew);
+    put
+}
+
 fn write_once(fd: i32, bytes: &[u8]) -> isize {
     let mut turns = u64::MAX;
     while turns > 0 {
@@ -72,8 +120,13 @@ fn write_once(fd: i32, bytes: &[u8]) -> isize {
         if put >= 0 {
             return put;
         }
-        if !again() {
+        let error = os::errno();
+        if !passing(error) {
             return -1;
+        }
+        let put = write_waiting(fd, error, bytes);
+        if put >= 0 {
+            return put;
         }
         turns -= 1;
     }

@@ -18,11 +18,20 @@ write-requires c κs = search needs
 returns : tie.Need-returns Inv-loop μ-loop
 returns c = search needs
 
-again-requires : tie.Need-again-requires Inv-loop μ-loop
-again-requires c κs = search needs
+errno-requires : tie.Need-errno-requires Inv-loop μ-loop
+errno-requires c κs = search needs
+
+passing-requires : tie.Need-passing-requires Inv-loop μ-loop
+passing-requires c κs = search needs
 
 returns-2 : tie.Need-returns-2 Inv-loop μ-loop
 returns-2 c = search needs
+
+write-waiting-requires : tie.Need-write-waiting-requires Inv-loop μ-loop
+write-waiting-requires c κs = search needs
+
+returns-3 : tie.Need-returns-3 Inv-loop μ-loop
+returns-3 c = search needs
 
 sub-turns : tie.Need-sub-turns Inv-loop μ-loop
 sub-turns c = search needs
@@ -33,8 +42,8 @@ loop-less c = search needs
 loop-again : tie.Need-loop-again Inv-loop μ-loop
 loop-again c = search needs
 
-returns-3 : tie.Need-returns-3 Inv-loop μ-loop
-returns-3 c = search needs
+returns-4 : tie.Need-returns-4 Inv-loop μ-loop
+returns-4 c = search needs
 
 pub write-once-spec : {M : Type 1} → statement M
 write-once-spec =
@@ -45,9 +54,12 @@ write-once-spec =
     loop-holds
     write-requires
     returns
-    again-requires
+    errno-requires
+    passing-requires
     returns-2
+    write-waiting-requires
+    returns-3
     sub-turns
     loop-less
     loop-again
-    returns-3)
+    returns-4)
