@@ -1,5 +1,6 @@
--- Demand 1 in document 01's numbers: what each public entry tells of a fault, its number and its line, by the definitions that its contract cites. Only
--- statements, each proved by one line from the files beside this one. `told` is `numberOf` and `lineOf` of a status, 0 and 0 where there is no fault.
+-- Demand 1 in document 01's numbers: what each public entry tells of a fault, its number and its line, by the
+-- definitions that its contract cites. Only statements, each proved by one line from the files beside this one. `told`
+-- is `numberOf` and `lineOf` of a status, 0 and 0 where there is no fault.
 use mathlib.Core.Path.{_≡_, ap, _∙_}
 use mathlib.Core.List.{List, []}
 use mathlib.Core.Logic.{_↔_}
@@ -44,11 +45,13 @@ pub read-result-empty : told (readResult [] .status) ≡ tell 2 1
 read-result-empty = faults.result-empty
 
 -- ---- run::run
--- "Values handed over without text get the same checks in the same line order": the first row of the table that is given, 0 and 0 where none is
+-- "Values handed over without text get the same checks in the same line order": the first row of the table that is
+-- given, 0 and 0 where none is
 pub run : (j : Job) → told (runJob j .status) ≡ firstGiven (jobRows j)
 run j = ap told (faults.run-status j) ∙ faults.job-first j
 
--- ---- jobwrite::write_job, resultwrite::write_result: any answer a that the contract allows, for the values' text and a buffer with the bytes old
+-- ---- jobwrite::write_job, resultwrite::write_result: any answer a that the contract allows, for the values' text
+-- and a buffer with the bytes old
 -- "When writing, faults of the values come before 7."
 pub write-job : (j : Job) (old new : List ℕ) (a : Written) → Leaves (checkJob j) (jobBytes j) old new a
     → told (a .status) ≡ orElse (firstGiven (jobRows j)) (shortBuffer old (jobBytes j))
@@ -67,16 +70,19 @@ pub write-result-short : (r : Result) (old new : List ℕ) (a : Written) → Lea
     → (told (a .status) .number ≡ 7) ↔ ((told (checkResult r) .number ≡ 0) × (length old < length (showResult r)))
 write-result-short r old new a leaves = faults.answer-seven leaves (faults.result-values r)
 
--- ---- desk::solve, desk::rewrite_job, desk::rewrite_result: the reader's fault, and 7 exactly where it has none and the buffer is too short
+-- ---- desk::solve, desk::rewrite_job, desk::rewrite_result: the reader's fault, and 7 exactly where it has none and
+-- the buffer is too short
 module _ (t old new : List ℕ) (a : Written) where
-  pub solve : Leaves (solveStatus t) (solveText t) old new a → told (a .status) ≡ orElse (told (readJob t .status)) (shortBuffer old (solveText t))
+  pub solve : Leaves (solveStatus t) (solveText t) old new a
+      → told (a .status) ≡ orElse (told (readJob t .status)) (shortBuffer old (solveText t))
   solve leaves = faults.answer-told (rw (solve-status t) at leaves)
 
   pub solve-short : Leaves (solveStatus t) (solveText t) old new a
       → (told (a .status) .number ≡ 7) ↔ ((told (readJob t .status) .number ≡ 0) × (length old < length (solveText t)))
   solve-short leaves = faults.answer-seven (rw (solve-status t) at leaves) (faults.job-not-seven t)
 
-  pub rewrite-job : Leaves (jobStatus t) (jobText t) old new a → told (a .status) ≡ orElse (told (readJob t .status)) (shortBuffer old (jobText t))
+  pub rewrite-job : Leaves (jobStatus t) (jobText t) old new a
+      → told (a .status) ≡ orElse (told (readJob t .status)) (shortBuffer old (jobText t))
   rewrite-job leaves = faults.answer-told (rw (job-status t) at leaves)
 
   pub rewrite-job-short : Leaves (jobStatus t) (jobText t) old new a
@@ -88,5 +94,6 @@ module _ (t old new : List ℕ) (a : Written) where
   rewrite-result leaves = faults.answer-told (rw (result-status t) at leaves)
 
   pub rewrite-result-short : Leaves (resultStatus t) (resultText t) old new a
-      → (told (a .status) .number ≡ 7) ↔ ((told (readResult t .status) .number ≡ 0) × (length old < length (resultText t)))
+      → (told (a .status) .number ≡ 7)
+      ↔ ((told (readResult t .status) .number ≡ 0) × (length old < length (resultText t)))
   rewrite-result-short leaves = faults.answer-seven (rw (result-status t) at leaves) (faults.result-not-seven t)

@@ -58,7 +58,8 @@ without-first : (rows : List Row) → without rows ≡ true → firstGiven rows 
 without-first [] e n = omega arith
 without-first (r ∷ rs) e n = by (r .given) (eqb (r .number) 7) refl e n (without-first rs)
   where
-    by : (g b : Bool) → eqb (r .number) 7 ≡ b → cond b false (without rs) ≡ true → cond g (tell (r .number) (r .line)) (firstGiven rs) .number ≡ 7
+    by : (g b : Bool) → eqb (r .number) 7 ≡ b → cond b false (without rs) ≡ true
+        → cond g (tell (r .number) (r .line)) (firstGiven rs) .number ≡ 7
         → (without rs ≡ true → firstGiven rs .number ≡ 7 → ⊥) → ⊥
     by g true q e n rest = zero-one (cc)
     by true false q e n rest = eqb-false (r .number) 7 q n
@@ -68,7 +69,8 @@ without-both : (xs ys : List Row) → without xs ≡ true → without ys ≡ tru
 without-both [] ys e h = h
 without-both (r ∷ xs) ys e h = by (eqb (r .number) 7) e (λ e. without-both xs ys e h)
   where
-    by : (b : Bool) → cond b false (without xs) ≡ true → (without xs ≡ true → without (xs ++ ys) ≡ true) → cond b false (without (xs ++ ys)) ≡ true
+    by : (b : Bool) → cond b false (without xs) ≡ true → (without xs ≡ true → without (xs ++ ys) ≡ true)
+        → cond b false (without (xs ++ ys)) ≡ true
     by true e rest = e
     by false e rest = rest e
 
@@ -78,7 +80,8 @@ without-lines (suc n) f h = without-both (eachLine n f) (f n) (without-lines n f
 
 pub job-values : (j : Job) → numberOf (checkJob j) ≡ 7 → ⊥
 job-values j n =
-    without-first (jobRows j) (without-lines (j .n) (systemRows (j .kind) j) (by (j .kind))) (sym (ap (λ (x : Told). x .number) (job-first j)) ∙ n)
+    without-first (jobRows j) (without-lines (j .n) (systemRows (j .kind) j) (by (j .kind)))
+    (sym (ap (λ (x : Told). x .number) (job-first j)) ∙ n)
   where
     by : (k : Kind) (i : ℕ) → without (systemRows k j i) ≡ true
     by Kind.Poly i = refl
@@ -113,7 +116,10 @@ written-told : (st : Status) (old t : List ℕ) → told (answerOf st old t .sta
 unfolding answerOf
 written-told Status.Done old t = by (ltb (length old) (length t))
   where
-    by : (b : Bool) → told (cond b (refused (Status.Refused Fault.ShortBuffer 0)) (record { status = Status.Done; len = length t }) .status)
+    short : Written
+    short = refused (Status.Refused Fault.ShortBuffer 0)
+
+    by : (b : Bool) → told (cond b short (record { status = Status.Done; len = length t }) .status)
         ≡ cond b (tell 7 0) (tell 0 0)
     by true = refl
     by false = refl
@@ -121,19 +127,23 @@ written-told (Status.Refused f line) old t = rw (ne-eqb (faultNumber f) 0 (numbe
 
 seven : (st : Status) (old t : List ℕ) → (numberOf st ≡ 7 → ⊥)
     → (orElse (told st) (shortBuffer old t) .number ≡ 7) ↔ ((numberOf st ≡ 0) × (length old < length t))
-seven Status.Done old t other = (by (ltb (length old) (length t)) refl, λ h. rw (lt-ltb (length old) (length t) (h .1)) refl)
+seven Status.Done old t other =
+    (by (ltb (length old) (length t)) refl, λ h. rw (lt-ltb (length old) (length t) (h .1)) refl)
   where
-    by : (b : Bool) → ltb (length old) (length t) ≡ b → cond b (tell 7 0) (tell 0 0) .number ≡ 7 → (_≡_ {A = ℕ} 0 0) × (length old < length t)
+    by : (b : Bool) → ltb (length old) (length t) ≡ b → cond b (tell 7 0) (tell 0 0) .number ≡ 7
+        → (_≡_ {A = ℕ} 0 0) × (length old < length t)
     by true e n = (refl, ltb-true (length old) (length t) e)
     by false e n = absurd (zero-one (omega arith))
-seven (Status.Refused f line) old t other = (λ n. absurd (other (rw (ne-eqb (faultNumber f) 0 (numbered f)) at n)), λ h. absurd (numbered f (h .0)))
+seven (Status.Refused f line) old t other =
+    (λ n. absurd (other (rw (ne-eqb (faultNumber f) 0 (numbered f)) at n)), λ h. absurd (numbered f (h .0)))
 
 -- an answer that the contract of a writer allows
 module _ {st : Status} {t old new : List ℕ} {a : Written} (leaves : Leaves st t old new a) where
   pub answer-told : told (a .status) ≡ orElse (told st) (shortBuffer old t)
   answer-told = rw (leaves .answer) (written-told st old t)
 
-  pub answer-seven : (numberOf st ≡ 7 → ⊥) → (told (a .status) .number ≡ 7) ↔ ((told st .number ≡ 0) × (length old < length t))
+  pub answer-seven : (numberOf st ≡ 7 → ⊥) → (told (a .status) .number ≡ 7)
+      ↔ ((told st .number ≡ 0) × (length old < length t))
   answer-seven other = let e = ap (λ (x : Told). x .number) answer-told in rw e (seven st old t other)
 
 -- ---- a text: its length comes first, then what its lines say
@@ -148,7 +158,8 @@ module _ (t : List ℕ) (st : Status) where
     long-exactly : (told (taken t st) .number ≡ 1) ↔ (textMax < length t)
     long-exactly = (by (ltb textMax (length t)) refl, λ l. ap (λ (x : Told). x .number) (long-told l))
       where
-        by : (b : Bool) → ltb textMax (length t) ≡ b → told (cond b (Status.Refused Fault.LongText 0) st) .number ≡ 1 → textMax < length t
+        by : (b : Bool) → ltb textMax (length t) ≡ b → told (cond b (Status.Refused Fault.LongText 0) st) .number ≡ 1
+            → textMax < length t
         by true e n = ltb-true textMax (length t) e
         by false e n = absurd (line .0 n)
 
@@ -170,7 +181,8 @@ module _ (t : List ℕ) where
   unfolding job.readJob
   job-taken = by (ltb textMax (length t))
     where
-      by : (b : Bool) → cond b (job.refusedWith (Status.Refused Fault.LongText 0)) job-read .status ≡ cond b (Status.Refused Fault.LongText 0) (job-read .status)
+      by : (b : Bool) → cond b (job.refusedWith (Status.Refused Fault.LongText 0)) job-read .status
+          ≡ cond b (Status.Refused Fault.LongText 0) (job-read .status)
       by true = refl
       by false = refl
 

@@ -94,13 +94,15 @@ of-then {s} {t} h g = by s h
     by (Status.Refused f line) h = h
 
 -- ---- what is kept by every line is kept by a text
-feeds-keep : {S : Type 0} (P : S → Type 0) (step : S → List ℕ → S) (sep : ℕ) → ((s : S) (l : List ℕ) → P s → P (step s l))
+feeds-keep : {S : Type 0} (P : S → Type 0) (step : S → List ℕ → S) (sep : ℕ)
+    → ((s : S) (l : List ℕ) → P s → P (step s l))
     → (bs : List ℕ) (k : Cut S) → P (k .st) → P (feeds step sep k bs .st)
 unfolding feeds feed
 feeds-keep P step sep keep [] k h = h
 feeds-keep P step sep keep (b ∷ bs) k h = feeds-keep P step sep keep bs (feed step sep k b) (by (eqb b sep))
   where
-    by : (t : Bool) → P (cond t (fresh (step (k .st) (k .held))) (record { st = k .st; held = k .held ++ (b ∷ []) }) .st)
+    by : (t : Bool)
+        → P (cond t (fresh (step (k .st) (k .held))) (record { st = k .st; held = k .held ++ (b ∷ []) }) .st)
     by true = keep (k .st) (k .held) h
     by false = h
 
@@ -149,19 +151,25 @@ module _ (s : Reading) where
       (of-spelled _ (s .line) (of-then (of-unless _ Fault.Beyond (s .line) refl)
       (of-then (of-unless _ Fault.Beyond (s .line) refl) (of-unless _ Fault.Terms (s .line) refl))))
   job-system Kind.Linear i l =
-      of-judged _ s _ _ (of-spelled _ (s .line) (of-then (of-unless _ Fault.Beyond (s .line) refl) (of-unless _ Fault.Beyond (s .line) refl)))
+      of-judged _ s _ _
+      (of-spelled _ (s .line)
+      (of-then (of-unless _ Fault.Beyond (s .line) refl) (of-unless _ Fault.Beyond (s .line) refl)))
   job-system Kind.Eigen i l = of-judged _ s _ _ (of-spelled _ (s .line) (of-unless _ Fault.Beyond (s .line) refl))
 
   job-line : (k : Line) (l : List ℕ) → Job-of-line (job.lineOf k s l)
-  unfolding job.lineOf lines.numberLine lines.kindLine lines.nLine lines.nValue lines.nDigit lines.loLine lines.loValue lines.hiLine lines.hiValue lines.invLine
-      lines.invValue lines.stepsLine unknownsLine lowLine highLine inverseLine
+  unfolding job.lineOf lines.numberLine lines.kindLine lines.nLine lines.nValue lines.nDigit lines.loLine
+      lines.loValue lines.hiLine lines.hiValue lines.invLine lines.invValue
+      lines.stepsLine unknownsLine lowLine highLine inverseLine
   job-line Line.Number l = job-number _
   job-line Line.Kind l = job-kind _
   job-line Line.Unknowns l =
-      either Job-of-line (lines.oneDigit (bodyOf nKey l)) (of-judged _ s _ _ (of-unless _ Fault.Unknowns (s .line) refl)) (record { line = refl })
+      either Job-of-line (lines.oneDigit (bodyOf nKey l))
+      (of-judged _ s _ _ (of-unless _ Fault.Unknowns (s .line) refl)) (record { line = refl })
   job-line Line.Lo l = of-judged _ s _ _ (of-spelled _ (s .line) (of-unless _ Fault.Beyond (s .line) refl))
   job-line Line.Hi l =
-      of-judged _ s _ _ (of-spelled _ (s .line) (of-then (of-unless _ Fault.Beyond (s .line) refl) (of-unless _ Fault.Crossed (s .line) refl)))
+      of-judged _ s _ _
+      (of-spelled _ (s .line)
+      (of-then (of-unless _ Fault.Beyond (s .line) refl) (of-unless _ Fault.Crossed (s .line) refl)))
   job-line Line.Inv l = of-judged _ s _ _ (of-spelled _ (s .line) (of-unless _ Fault.Beyond (s .line) refl))
   job-line Line.Steps l = job-steps _
   job-line (Line.System i) l = job-system (s .job .kind) i l
@@ -185,7 +193,8 @@ module _ (s : Reading) where
 pub job-lines : (t : List ℕ) → Job-read (job.finishedCut (feeds job.readLine lineFeed (fresh startReading) t))
 unfolding job.finishedCut job.finished
 job-lines t =
-    let kept = feeds-keep Job-of-line job.readLine lineFeed job-read-line t (fresh startReading) (record { line = refl }) in
+    let first = fresh startReading in
+    let kept = feeds-keep Job-of-line job.readLine lineFeed job-read-line t first (record { line = refl }) in
     job-finished-as _ _ _ (record { line = kept .line })
 
 -- ---- a result text
@@ -217,7 +226,8 @@ module _ (s : result-reading.Reading) where
   result-steps (Count.Is m) = record { line = refl }
 
   -- one test more
-  test : (b : Bool) (f : Fault) (r : result-reading.Reading) → lineFault f ≡ true → Result-of-line r → Result-of-line (cond b (results.badLine s f) r)
+  test : (b : Bool) (f : Fault) (r : result-reading.Reading) → lineFault f ≡ true → Result-of-line r
+      → Result-of-line (cond b (results.badLine s f) r)
   test b f r e h = either Result-of-line b (bad f e) h
 
   result-lo : (a : Numbers) → Result-of-line (result.loValue s a)
@@ -225,7 +235,8 @@ module _ (s : result-reading.Reading) where
   result-lo a =
       test (not (a .ok)) Fault.Spelling _ refl
       (test (ltb nMax (a .count)) Fault.Unknowns _ refl
-      (test (not (allWithin (take nMax (a .vals)) (a .count) (pos endMax))) Fault.Beyond _ refl (record { line = refl })))
+      (test (not (allWithin (take nMax (a .vals)) (a .count) (pos endMax))) Fault.Beyond _ refl
+      (record { line = refl })))
 
   result-hi : (a : Numbers) → Result-of-line (result.hiValue s a)
   unfolding result.hiValue
@@ -233,7 +244,8 @@ module _ (s : result-reading.Reading) where
       test (not (a .ok)) Fault.Spelling _ refl
       (test (not (eqb (a .count) (s .result .n))) Fault.Spelling _ refl
       (test (not (allWithin (take nMax (a .vals)) (s .result .n) (pos endMax))) Fault.Beyond _ refl
-      (test (not (allOrdered (s .result .lo) (take nMax (a .vals)) (s .result .n))) Fault.Crossed _ refl (record { line = refl }))))
+      (test (not (allOrdered (s .result .lo) (take nMax (a .vals)) (s .result .n))) Fault.Crossed _ refl
+      (record { line = refl }))))
 
   result-line : (k : result-kind.Line) (l : List ℕ) → Result-of-line (result.lineOf k s l)
   unfolding result.lineOf result.numberLine result.verdictLine result.stepsLine result.loLine result.hiLine
@@ -259,8 +271,10 @@ module _ (s : result-reading.Reading) where
       (either Result-read (not (result.atEnd (s .next))) (record { line = refl }) (record { line = refl }))
   result-finished-as (Status.Refused f line) held h = record { line = h .line }
 
-pub result-lines : (t : List ℕ) → Result-read (result.finishedCut (feeds result.readLine lineFeed (fresh results.startReading) t))
+pub result-lines : (t : List ℕ)
+    → Result-read (result.finishedCut (feeds result.readLine lineFeed (fresh results.startReading) t))
 unfolding result.finishedCut result.finished
 result-lines t =
-    let kept = feeds-keep Result-of-line result.readLine lineFeed result-read-line t (fresh results.startReading) (record { line = refl }) in
+    let first = fresh results.startReading in
+    let kept = feeds-keep Result-of-line result.readLine lineFeed result-read-line t first (record { line = refl }) in
     result-finished-as _ _ _ (record { line = kept .line })

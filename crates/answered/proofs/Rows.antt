@@ -34,7 +34,8 @@ tell-none : Tells [] Status.Done
 tell-none = record { all = λ rest. refl }
 
 -- one row more in front
-tell-if : (b : Bool) (f : Fault) (line : ℕ) {rows : List Row} {st : Status} → Tells rows st → Tells (at line f b ∷ rows) (cond b (Status.Refused f line) st)
+tell-if : (b : Bool) (f : Fault) (line : ℕ) {rows : List Row} {st : Status} → Tells rows st
+    → Tells (at line f b ∷ rows) (cond b (Status.Refused f line) st)
 tell-if true f line h = record { all = λ rest. refl }
 tell-if false f line h = record { all = h .all }
 
@@ -52,13 +53,15 @@ tell-one false f line = record { all = λ rest. refl }
 
 tell-both : {xs ys : List Row} {s t : Status} → Tells xs s → Tells ys t → Tells (xs ++ ys) (andThen s t)
 unfolding andThen
-tell-both {xs} {ys} {s} {t} h g = record { all = λ rest. rw (append-assoc xs ys rest) (h .all (ys ++ rest) ∙ by s rest) }
+tell-both {xs} {ys} {s} {t} h g =
+    record { all = λ rest. rw (append-assoc xs ys rest) (h .all (ys ++ rest) ∙ by s rest) }
   where
     by : (s : Status) (rest : List Row) → before s (firstGiven (ys ++ rest)) ≡ before (andThen s t) (firstGiven rest)
     by Status.Done rest = g .all rest
     by (Status.Refused f line) rest = refl
 
-tell-lines : (n : ℕ) (f : ℕ → List Row) (g : ℕ → Status) → ((i : ℕ) → Tells (f i) (g i)) → Tells (eachLine n f) (linesOf n g)
+tell-lines : (n : ℕ) (f : ℕ → List Row) (g : ℕ → Status) → ((i : ℕ) → Tells (f i) (g i))
+    → Tells (eachLine n f) (linesOf n g)
 unfolding linesOf
 tell-lines zero f g h = tell-none
 tell-lines (suc n) f g h = tell-both (tell-lines n f g h) (h n)
@@ -74,11 +77,14 @@ module _ (j : Job) where
   unfolding checkJob headLines bodyLines numberLine unknownsLine lowLine highLine inverseLine stepsLine systemLines
   job-tells =
       rw (then-assoc, then-assoc)
-      (tell-row _ Fault.Beyond 1 (tell-row _ Fault.Unknowns 3 (tell-row _ Fault.Beyond 4 (tell-row _ Fault.Beyond 5 (tell-row _ Fault.Crossed 5
-      (tell-row _ Fault.Beyond 6 (tell-row _ Fault.Steps 7 (tell-lines (j .n) (systemRows (j .kind) j) _ (system-line (j .kind))))))))))
+      (tell-row _ Fault.Beyond 1 (tell-row _ Fault.Unknowns 3
+      (tell-row _ Fault.Beyond 4 (tell-row _ Fault.Beyond 5 (tell-row _ Fault.Crossed 5
+      (tell-row _ Fault.Beyond 6 (tell-row _ Fault.Steps 7
+      (tell-lines (j .n) (systemRows (j .kind) j) _ (system-line (j .kind))))))))))
 
 pub result-tells : (r : Result) → Tells (resultRows r) (checkResult r)
 unfolding checkResult
 result-tells r =
-    tell-if _ Fault.Beyond 1 (tell-if _ Fault.Steps 3 (tell-if _ Fault.Spelling 4 (tell-if _ Fault.Unknowns 4 (tell-if _ Fault.Beyond 4
+    tell-if _ Fault.Beyond 1 (tell-if _ Fault.Steps 3
+    (tell-if _ Fault.Spelling 4 (tell-if _ Fault.Unknowns 4 (tell-if _ Fault.Beyond 4
     (tell-if _ Fault.Beyond 5 (tell-if _ Fault.Crossed 5 tell-none))))))

@@ -1,5 +1,6 @@
--- Document 01, "Fault numbers": what is told of an entry's status, and for values which fault, as a table. "lines are taken in order and the first bad line
--- decides; in one line 2 comes before the others, then 3, then 4, then 5 or 6", "values handed over without text get the same checks in the same line order".
+-- Document 01, "Fault numbers": what is told of an entry's status, and for values which fault, as a table. "lines are
+-- taken in order and the first bad line decides; in one line 2 comes before the others, then 3, then 4, then 5 or 6",
+-- "values handed over without text get the same checks in the same line order".
 use Prim.Native.Nat.{ℕ, zero, suc, _+_}
 use mathlib.Core.Bool.{Bool, cond, not}
 use mathlib.Core.List.{List, [], _∷_, _++_}
@@ -79,7 +80,8 @@ jobRows j =
     ∷ row 7 8 (not (leb (j .steps) stepsMax))
     ∷ eachLine (j .n) (systemRows (j .kind) j)
 
--- a result's lines are job, verdict, steps, lo, hi: "an empty list (n = 0 in values) is fault 2, one of over 4 numbers fault 3"
+-- a result's lines are job, verdict, steps, lo, hi: "an empty list (n = 0 in values) is fault 2, one of over 4
+-- numbers fault 3"
 abbrev pub resultRows : Result → List Row
 resultRows r =
     row 1 4 (ltb numberMax (r .number))

@@ -1,4 +1,5 @@
--- A system's answers: the steps that a run begins, the zeros in the box of each step and answer, and the step that says "unique".
+-- A system's answers: the steps that a run begins, the zeros in the box of each step and answer, and the step that
+-- says "unique".
 use mathlib.Core.Path.{_≡_, ap}
 use mathlib.Core.List.{List}
 use mathlib.Core.Logic.{⊎-elim}
@@ -67,6 +68,8 @@ module _ (s : System) where
       edges = wide (s .n) (s .equations) (s .inverse) (sideAt (step .x)) (s .degrees) order strictly;
       closer = closer (s .n) (s .equations) (s .inverse) (step .x) (s .degrees) order strictly;
       sharper = record {
-        within = λ P R d u v. contracts (s .n) (s .equations) (s .inverse) (sideAt (step .x)) (s .degrees) order strictly {P = P} {R = R} {d = d} u v;
+        within = λ P R d u v.
+            contracts (s .n) (s .equations) (s .inverse) (sideAt (step .x)) (s .degrees) order strictly
+            {P = P} {R = R} {d = d} u v;
       };
     }

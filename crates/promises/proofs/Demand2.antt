@@ -1,5 +1,6 @@
--- Demand 2, of every accepted job of the three kinds, "whatever inverse was proposed", and of both texts. Only statements, each proved by one line from the
--- files beside this one and the crates of the texts. `jobRun j a` is the run of the job j with the allowance a, by the definitions that the contracts cite.
+-- Demand 2, of every accepted job of the three kinds, "whatever inverse was proposed", and of both texts. Only
+-- statements, each proved by one line from the files beside this one and the crates of the texts. `jobRun j a` is the
+-- run of the job j with the allowance a, by the definitions that the contracts cite.
 use mathlib.Core.Path.{_≡_}
 use mathlib.Core.List.{List}
 use mathlib.Core.Logic.{_↔_}
@@ -60,7 +61,8 @@ module _ (j : Job) (checked : checkJob j ≡ Status.Done) where
   abbrev Stays : List Interval → Type 0
   Stays = UnchangedOn (j .n) (equationOf j) (inverseOf j)
 
-  -- box, verdict and step count are the definitions': the public entry answers the job's run with its own allowance (`entry` of Demand3: with any)
+  -- box, verdict and step count are the definitions': the public entry answers the job's run with its own allowance
+  -- (`entry` of Demand3: with any)
   pub answers : runJob j ≡ record { status = Status.Done; result = resultOf j (jobRun j (j .steps)) }
   answers = demand3.entry j checked (j .steps) (accepted .steps)
 
@@ -82,7 +84,8 @@ module _ (j : Job) (checked : checkJob j ≡ Status.Done) where
   pub unique-exactly : (a : ℕ) → (jobRun j a .verdict ≡ Verdict.Unique) ↔ Reaches (jobRun j) a Contains
   unique-exactly = verdicts.unique-reached s
 
-  pub unique-answer : (a : ℕ) (r : Reaches (jobRun j) a Contains) → jobRun j a ≡ outcome Verdict.Unique (r .t + 1) (image (r .x))
+  pub unique-answer : (a : ℕ) (r : Reaches (jobRun j) a Contains)
+      → jobRun j a ≡ outcome Verdict.Unique (r .t + 1) (image (r .x))
   unique-answer = verdicts.unique-answer s
 
   -- "K cut with X is X itself: verdict stalled, box X"
@@ -95,7 +98,8 @@ module _ (j : Job) (checked : checkJob j ≡ Status.Done) where
   pub stalled-answer : (a : ℕ) (r : Reaches (jobRun j) a Stays) → jobRun j a ≡ outcome Verdict.Stalled (r .t + 1) (r .x)
   stalled-answer = verdicts.stalled-answer s (accepted .some)
 
-  -- "If the allowance is used up with none of the three reached, the verdict is spent with the box so far", and the whole allowance is counted.
+  -- "If the allowance is used up with none of the three reached, the verdict is spent with the box so far", and the
+  -- whole allowance is counted.
   pub spent-exactly : (a : ℕ) → (jobRun j a .verdict ≡ Verdict.Spent)
       ↔ ((Reaches (jobRun j) a Misses → ⊥) × ((Reaches (jobRun j) a Contains → ⊥) × (Reaches (jobRun j) a Stays → ⊥)))
   spent-exactly = verdicts.spent-reached s (accepted .some)
@@ -116,5 +120,6 @@ result-values-back = result-values.read-write
 pub job-text-back : (t : List ℕ) (j : Job) → readJob t ≡ record { status = Status.Done; job = j } → jobBytes j ≡ t
 job-text-back = job-text.write-read
 
-pub result-text-back : (t : List ℕ) (r : Result) → readResult t ≡ record { status = Status.Done; result = r } → showResult r ≡ t
+pub result-text-back : (t : List ℕ) (r : Result) → readResult t ≡ record { status = Status.Done; result = r }
+    → showResult r ≡ t
 result-text-back = result-text.write-read

@@ -135,14 +135,22 @@ module _ (n : ℕ) (q : ℕ → Equation) (C : ℕ → ℕ → ℤ) where
     pub begins : runOf n q C t 0 start ≡ outcome Verdict.Spent t x
     pub answer : runOf n q C a 0 start ≡ runOf n q C 1 t x
 
-  pub deciding : (a : ℕ) (start : List Interval) → (runOf n q C a 0 start .verdict ≡ Verdict.Spent → ⊥) → Deciding start a
+  pub deciding : (a : ℕ) (start : List Interval) → (runOf n q C a 0 start .verdict ≡ Verdict.Spent → ⊥)
+      → Deciding start a
   deciding zero start h = absurd (h (verdict-of (run-none 0 start)))
-  deciding (suc a) start h = ⊎-elim here (λ decided. later decided (deciding a start decided)) (spent-or (runOf n q C a 0 start .verdict))
+  deciding (suc a) start h =
+      ⊎-elim here (λ decided. later decided (deciding a start decided)) (spent-or (runOf n q C a 0 start .verdict))
     where
       here : runOf n q C a 0 start .verdict ≡ Verdict.Spent → Deciding start (suc a)
       here v =
           let begins = whole-spent a start v in
-          record { t = a; x = runOf n q C a 0 start .sides; within = omega arith; begins = begins; answer = rw (← add-one a) (run-on a 1 0 start begins) }
+          record {
+            t = a;
+            x = runOf n q C a 0 start .sides;
+            within = omega arith;
+            begins = begins;
+            answer = rw (← add-one a) (run-on a 1 0 start begins);
+          }
 
       later : (runOf n q C a 0 start .verdict ≡ Verdict.Spent → ⊥) → Deciding start a → Deciding start (suc a)
       later decided d = record {

@@ -70,7 +70,8 @@ module _ (s : System) where
   boxOn x = boxBy (s .n) x (imageBox (s .n) (s .equations) (s .inverse) x)
 
   -- ---- the step on x, begun after t
-  one : (t : ℕ) (x : List Interval) → runOf (s .n) (s .equations) (s .inverse) 1 t x ≡ outcome (verdictBy (what x)) (t + 1) (boxOn x (what x))
+  one : (t : ℕ) (x : List Interval) → runOf (s .n) (s .equations) (s .inverse) 1 t x
+      ≡ outcome (verdictBy (what x)) (t + 1) (boxOn x (what x))
   unfolding stepOf
   one t x =
       run-one (s .n) (s .equations) (s .inverse) t x
@@ -82,13 +83,16 @@ module _ (s : System) where
   sides-of = ap (λ (o : Outcome). o .sides)
 
   pub step-ordered : {t : ℕ} {x : List Interval} → Begins (runWith s) t x → Ordered (s .n) (sideAt x)
-  step-ordered {t} b = rw (← sides-of b) (run-ordered (s .n) (s .equations) (s .inverse) (s .room) (s .degrees) t 0 (s .start) (s .order))
+  step-ordered {t} b =
+      rw (← sides-of b)
+      (run-ordered (s .n) (s .equations) (s .inverse) (s .room) (s .degrees) t 0 (s .start) (s .order))
 
   pub step-none : (x : List Interval) → (what x ≡ Move.None) ↔ EmptyOn (s .n) (s .equations) (s .inverse) x
   unfolding stepOf
   step-none x = none-exactly (s .n) x (imageBox (s .n) (s .equations) (s .inverse) x)
 
-  pub step-unique : {t : ℕ} {x : List Interval} → Begins (runWith s) t x → (what x ≡ Move.Unique) ↔ StrictlyOn (s .n) (s .equations) (s .inverse) x
+  pub step-unique : {t : ℕ} {x : List Interval} → Begins (runWith s) t x
+      → (what x ≡ Move.Unique) ↔ StrictlyOn (s .n) (s .equations) (s .inverse) x
   unfolding stepOf
   step-unique {x = x} b =
       unique-exactly (s .n) x (imageBox (s .n) (s .equations) (s .inverse) x)
@@ -97,12 +101,16 @@ module _ (s : System) where
   pub step-stalled : 1 ≤ s .n → {t : ℕ} {x : List Interval} → Begins (runWith s) t x
       → (what x ≡ Move.Stalled) ↔ UnchangedOn (s .n) (s .equations) (s .inverse) x
   unfolding stepOf
-  step-stalled some {x = x} b = stalled-exactly (s .n) x (imageBox (s .n) (s .equations) (s .inverse) x) some (step-ordered b)
+  step-stalled some {x = x} b =
+      stalled-exactly (s .n) x (imageBox (s .n) (s .equations) (s .inverse) x) some (step-ordered b)
 
-  -- ---- a verdict v other than "spent" stays, for a larger allowance (`cc` shows that v is another one, as an equation that never holds)
-  pub answer-stays : {a b : ℕ} {v : Verdict} → a ≤ b → runWith s a .verdict ≡ v → (v ≡ Verdict.Spent → _≡_ {A = ℕ} 0 1) → runWith s b ≡ runWith s a
+  -- ---- a verdict v other than "spent" stays, for a larger allowance (`cc` shows that v is another one, as an
+  -- equation that never holds)
+  pub answer-stays : {a b : ℕ} {v : Verdict} → a ≤ b → runWith s a .verdict ≡ v
+      → (v ≡ Verdict.Spent → _≡_ {A = ℕ} 0 1) → runWith s b ≡ runWith s a
   answer-stays {a} {b} l says other =
-      rw (more l) (run-stays (s .n) (s .equations) (s .inverse) a (b - a) 0 (s .start) (λ spent. zero-one (other (sym says ∙ spent))))
+      let decided : runWith s a .verdict ≡ Verdict.Spent → ⊥ = λ spent. zero-one (other (sym says ∙ spent)) in
+      rw (more l) (run-stays (s .n) (s .equations) (s .inverse) a (b - a) 0 (s .start) decided)
 
   -- such a verdict comes exactly where a step decides it, which is where P holds of the box that the step begins on
   module _ (v : Verdict) (other : v ≡ Verdict.Spent → _≡_ {A = ℕ} 0 1) (P : List Interval → Type 0)
@@ -120,9 +128,17 @@ module _ (s : System) where
       where
         only : runWith s a .verdict ≡ v → Reaches (runWith s) a P
         only says =
-            let d = deciding (s .n) (s .equations) (s .inverse) a (s .start) (λ spent. zero-one (other (sym says ∙ spent))) in
-            let move = sym (move-verdict (what (d .x))) ∙ ap moveBy (sym (verdict-of (d .answer ∙ one (d .t) (d .x))) ∙ says) in
-            record { t = d .t; x = d .x; within = d .within; begins = d .begins; holds = exactly (d .t) (d .x) (d .begins) .0 move }
+            let decided : runWith s a .verdict ≡ Verdict.Spent → ⊥ = λ spent. zero-one (other (sym says ∙ spent)) in
+            let d = deciding (s .n) (s .equations) (s .inverse) a (s .start) decided in
+            let verdict = sym (verdict-of (d .answer ∙ one (d .t) (d .x))) ∙ says in
+            let move = sym (move-verdict (what (d .x))) ∙ ap moveBy verdict in
+            record {
+              t = d .t;
+              x = d .x;
+              within = d .within;
+              begins = d .begins;
+              holds = exactly (d .t) (d .x) (d .begins) .0 move;
+            }
 
   abbrev E : List Interval → Type 0
   E = EmptyOn (s .n) (s .equations) (s .inverse)
@@ -160,13 +176,15 @@ module _ (s : System) where
         ↔ ((Reaches (runWith s) a E → ⊥) × ((Reaches (runWith s) a S → ⊥) × (Reaches (runWith s) a U → ⊥)))
     spent-reached a = (only, by (runWith s a .verdict) refl)
       where
-        only : runWith s a .verdict ≡ Verdict.Spent → (Reaches (runWith s) a E → ⊥) × ((Reaches (runWith s) a S → ⊥) × (Reaches (runWith s) a U → ⊥))
+        only : runWith s a .verdict ≡ Verdict.Spent
+            → (Reaches (runWith s) a E → ⊥) × ((Reaches (runWith s) a S → ⊥) × (Reaches (runWith s) a U → ⊥))
         only spent = (
           λ r. zero-one (cc (none-reached a .1 r)),
           (λ r. zero-one (cc (unique-reached a .1 r)), λ r. zero-one (cc (stalled-reached a .1 r))),
         )
 
-        by : (v : Verdict) → runWith s a .verdict ≡ v → (Reaches (runWith s) a E → ⊥) × ((Reaches (runWith s) a S → ⊥) × (Reaches (runWith s) a U → ⊥))
+        by : (v : Verdict) → runWith s a .verdict ≡ v
+            → (Reaches (runWith s) a E → ⊥) × ((Reaches (runWith s) a S → ⊥) × (Reaches (runWith s) a U → ⊥))
             → runWith s a .verdict ≡ Verdict.Spent
         by Verdict.None e h = absurd (h .0 (none-reached a .0 e))
         by Verdict.Unique e h = absurd (h .1 .0 (unique-reached a .0 e))

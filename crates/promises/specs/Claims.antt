@@ -1,5 +1,6 @@
--- The words of demands 2 and 3: "A claim about fractions is proved as the claim about whole numbers that is left when every denominator is multiplied out, the
--- 65,536s and the edge widths included." Throughout n is the number of unknowns, q the equations and C the proposed inverse.
+-- The words of demands 2 and 3: "A claim about fractions is proved as the claim about whole numbers that is left when
+-- every denominator is multiplied out, the 65,536s and the edge widths included." Throughout n is the
+-- number of unknowns, q the equations and C the proposed inverse.
 use mathlib.Core.Path.{_≡_}
 use mathlib.Core.List.{List}
 use Prim.Native.Nat.{ℕ, _+_, _≤_, _<_}
@@ -35,8 +36,8 @@ pub record Same (n : ℕ) (p r : Point) : Type 0 where
 pub record Zero (n : ℕ) (q : ℕ → Equation) (p : Point) : Type 0 where
   pub each : (i : ℕ) → i < n → equationNum n (q i) (p .num) (p .den) ≡ pos 0
 
--- "The exact Newton image of a fraction point p is p - C f(p)": f(p) is `equationNum` of the equations, which are the formulas of document 01 by `equation-is`
--- (systems, proofs/Formulas)
+-- "The exact Newton image of a fraction point p is p - C f(p)": f(p) is `equationNum` of the equations, which are the
+-- formulas of document 01 by `equation-is` (systems, proofs/Formulas)
 abbrev pub newtonOf : ℕ → (ℕ → Equation) → (ℕ → ℕ → ℤ) → Point → Point
 newtonOf n q C p = record { num = newtonNum n q C (p .num) (p .den); den = newtonDen (p .den) }
 

@@ -70,6 +70,7 @@ module _ (n : ℕ) (x k : List Interval) where
     cut-ordered e i l a b = rw (cut-at i l) (cut-order _ _ a b (all-each (λ i. meetsI (sideAt x i) (sideAt k i)) n i l e))
 
 -- a step decides by the image of its box
-pub step-is : (n : ℕ) (q : ℕ → Equation) (C : ℕ → ℕ → ℤ) (x : List Interval) → stepOf n q C x ≡ decideOf n x (imageBox n q C x)
+pub step-is : (n : ℕ) (q : ℕ → Equation) (C : ℕ → ℕ → ℤ) (x : List Interval)
+    → stepOf n q C x ≡ decideOf n x (imageBox n q C x)
 unfolding stepOf
 step-is n q C x = refl

@@ -52,7 +52,8 @@ module _ (x k : Interval) where
   apart-meets : Apart x k → meetsI x k ≡ false
   unfolding meetsI
   apart-meets =
-      ⊎-elim (λ h. rw (lt-leZ (x .lo) (k .hi) (omega (zorder, h))) (no (leZ (k .lo) (x .hi)))) (λ h. rw (lt-leZ (k .lo) (x .hi) (omega (zorder, h))) refl)
+      ⊎-elim (λ h. rw (lt-leZ (x .lo) (k .hi) (omega (zorder, h))) (no (leZ (k .lo) (x .hi))))
+      (λ h. rw (lt-leZ (k .lo) (x .hi) (omega (zorder, h))) refl)
     where
       no : (t : Bool) → both t false ≡ false
       no true = refl
@@ -68,11 +69,13 @@ module _ (x k : Interval) where
 
   strictly-inside : Strict x k → insideI x k ≡ true
   unfolding insideI
-  strictly-inside h = rw (lt-ltZ (x .lo) (k .lo) (omega (zorder, h .0)), lt-ltZ (k .hi) (x .hi) (omega (zorder, h .1))) refl
+  strictly-inside h =
+      rw (lt-ltZ (x .lo) (k .lo) (omega (zorder, h .0)), lt-ltZ (k .hi) (x .hi) (omega (zorder, h .1))) refl
 
   strictly-meets : k .lo ≤ℤ k .hi → Strict x k → meetsI x k ≡ true
   unfolding meetsI
-  strictly-meets o h = rw (le-leZ (k .lo) (x .hi) (omega (zorder, h .1)), le-leZ (x .lo) (k .hi) (omega (zorder, h .0))) refl
+  strictly-meets o h =
+      rw (le-leZ (k .lo) (x .hi) (omega (zorder, h .1)), le-leZ (x .lo) (k .hi) (omega (zorder, h .0))) refl
 
   -- x lies in k exactly where the cut leaves it as it is
   same-covers : sameI (cutI x k) x ≡ true → Covered x k
@@ -94,7 +97,8 @@ module _ (x k : Interval) where
 
     covers-meets : x .lo ≤ℤ x .hi → meetsI x k ≡ true
     unfolding meetsI
-    covers-meets o = rw (le-leZ (k .lo) (x .hi) (omega (zorder, h .0)), le-leZ (x .lo) (k .hi) (omega (zorder, h .1))) refl
+    covers-meets o =
+        rw (le-leZ (k .lo) (x .hi) (omega (zorder, h .0)), le-leZ (x .lo) (k .hi) (omega (zorder, h .1))) refl
 
     covers-not-inside : insideI x k ≡ false
     unfolding insideI
@@ -136,7 +140,8 @@ module _ (n : ℕ) (x k : List Interval) where
 
       where-empty : Empty n X K → decideOf n x k .what ≡ Move.None
       where-empty h = unfold decideOf allMeet in
-          (rw (all-stop (λ i. meetsI (X i) (K i)) n (h .place) (h .live) (apart-meets (X (h .place)) (K (h .place)) (h .apart))) refl)
+          (rw (all-stop (λ i. meetsI (X i) (K i)) n (h .place) (h .live)
+          (apart-meets (X (h .place)) (K (h .place)) (h .apart))) refl)
 
   -- an image is an interval, its ends in order
   pub unique-exactly : ((i : ℕ) → i < n → K i .lo ≤ℤ K i .hi) → (decideOf n x k .what ≡ Move.Unique) ↔ Strictly n X K
@@ -155,13 +160,15 @@ module _ (n : ℕ) (x k : List Interval) where
       ) refl)
 
   -- and so is a box; there is a coordinate to look at
-  pub stalled-exactly : 1 ≤ n → ((i : ℕ) → i < n → X i .lo ≤ℤ X i .hi) → (decideOf n x k .what ≡ Move.Stalled) ↔ Unchanged n X K
+  pub stalled-exactly : 1 ≤ n → ((i : ℕ) → i < n → X i .lo ≤ℤ X i .hi)
+      → (decideOf n x k .what ≡ Move.Stalled) ↔ Unchanged n X K
   stalled-exactly some order = (only (decided n x k), where-unchanged)
     where
       only : Decided n x k → decideOf n x k .what ≡ Move.Stalled → Unchanged n X K
       only (none e m) w = absurd (zero-one (cc))
       only (unique e s) w = absurd (zero-one (cc))
-      only (stalled e s) w = λ i l. same-covers (X i) (K i) (all-each (λ i. sameI (cutI (X i) (K i)) (X i)) n i l (unfold cutSame in s))
+      only (stalled e s) w =
+          λ i l. same-covers (X i) (K i) (all-each (λ i. sameI (cutI (X i) (K i)) (X i)) n i l (unfold cutSame in s))
       only (next e m) w = absurd (zero-one (cc))
 
       where-unchanged : Unchanged n X K → decideOf n x k .what ≡ Move.Stalled

@@ -70,7 +70,8 @@ module _ (n : ℕ) {q r : ℕ → Equation} {C D : ℕ → ℕ → ℤ}
 
   step-cong : (x : List Interval) → stepOf n q C x ≡ stepOf n r D x
   unfolding imageBox
-  step-cong x = rw (step-is n q C x, step-is n r D x) (ap (decideOf n x) (tab-cong zeroI nMax n _ _ (image-cong (sideAt x))))
+  step-cong x =
+      rw (step-is n q C x, step-is n r D x) (ap (decideOf n x) (tab-cong zeroI nMax n _ _ (image-cong (sideAt x))))
 
   run-cong : (allowance done : ℕ) (x : List Interval) → runOf n q C allowance done x ≡ runOf n r D allowance done x
   unfolding runOf

@@ -30,7 +30,9 @@ module _ {n : ℕ} (x k : List Interval) (box : BoxIn n (sideAt x)) (order : (i 
   next-in = go (allMeet n x k) refl (allInside n x k) (cutSame n x k)
     where
       by : Bool → Bool → Bool → Decision
-      by t u v = cond (not t) (decision Move.None x) (cond u (decision Move.Unique k) (cond v (decision Move.Stalled x) (decision Move.Next (cutBox n x k))))
+      by t u v =
+          cond (not t) (decision Move.None x)
+          (cond u (decision Move.Unique k) (cond v (decision Move.Stalled x) (decision Move.Next (cutBox n x k))))
 
       bad : _≡_ {A = ℕ} 0 1 → ⊥
       bad e = omega arith

@@ -27,7 +27,8 @@ module _ (x k : List Interval) where
   unfolding allMeet allInside cutSame cutBox allB
   pass-none = record { meets = refl; strictly = refl; stays = refl; cuts = tab-none zeroI nMax _ }
 
-  pub pass-more : {i : ℕ} {c : List Interval} {inside same more-inside more-same : Bool} {side : Interval} → i < nMax → Passed i c inside same
+  pub pass-more : {i : ℕ} {c : List Interval} {inside same more-inside more-same : Bool} {side : Interval}
+      → i < nMax → Passed i c inside same
       → meetsI (sideAt x i) (sideAt k i) ≡ true → side ≡ cutI (sideAt x i) (sideAt k i)
       → more-inside ≡ both inside (insideI (sideAt x i) (sideAt k i)) → more-same ≡ both same (sameI side (sideAt x i))
       → Passed (i + 1) (set c i side) more-inside more-same
@@ -41,11 +42,13 @@ module _ (x k : List Interval) where
 
   -- after it, no coordinate lies apart: the decision is by what was found
   pub pass-decides : {i n : ℕ} {c : List Interval} {inside same : Bool} → i ≤ n → n ≤ i → Passed i c inside same
-      → cond inside (decision Move.Unique k) (cond same (decision Move.Stalled x) (decision Move.Next c)) ≡ decideOf n x k
+      → cond inside (decision Move.Unique k) (cond same (decision Move.Stalled x) (decision Move.Next c))
+      ≡ decideOf n x k
   unfolding decideOf
   pass-decides h g p = rw (← le-antisymm h g, p .meets, p .strictly, p .stays, p .cuts) refl
 
   -- a coordinate that lies apart decides
-  pub apart-decides : (n i : ℕ) → i < n → meetsI (sideAt x i) (sideAt k i) ≡ false → decision Move.None x ≡ decideOf n x k
+  pub apart-decides : (n i : ℕ) → i < n → meetsI (sideAt x i) (sideAt k i) ≡ false
+      → decision Move.None x ≡ decideOf n x k
   unfolding decideOf allMeet
   apart-decides n i l e = rw (all-stop (λ i. meetsI (sideAt x i) (sideAt k i)) n i l e) refl

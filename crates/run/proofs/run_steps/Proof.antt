@@ -49,7 +49,8 @@ decided : (c : tie.After-decide Inv-loop μ-loop) → let s = c .before .before 
 decided c =
     let l = c .before .before .before .loop in
     let s = c .before .before .before .before .args in
-    run-turn _ _ _ (s .allowance) (l .done) (l .x) (omega arith) (c .before .image .ensures) (c .decide .ensures) (l .inv .1 .1)
+    run-turn _ _ _ (s .allowance) (l .done) (l .x) (omega arith) (c .before .image .ensures) (c .decide .ensures)
+    (l .inv .1 .1)
 
 enum-told : tie.Need-enum-told Inv-loop μ-loop
 enum-told c = search needs

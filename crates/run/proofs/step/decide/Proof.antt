@@ -1,4 +1,4 @@
--- decide: each turn looks at one coordinate, and one that lies apart decides; then the tests of document 01, in its order.
+-- decide: each turn looks at one coordinate, and one that lies apart decides; then the tests in document 01's order.
 use mathlib.Core.Path.{sym, _∙_}
 use Prim.Native.Nat.{_≤_, _-_}
 use native.Mathlib.Omega.{arith}
@@ -33,7 +33,9 @@ meets-requires : tie.Need-meets-requires Inv-loop μ-loop
 meets-requires c κs = search needs
 
 returns : tie.Need-returns Inv-loop μ-loop
-returns c = apart-decides _ _ _ _ (c .before .before .before .before .loop-test .taken) (sym (c .before .meets .ensures) ∙ not-true _ (c .if1 .taken))
+returns c =
+    apart-decides _ _ _ _ (c .before .before .before .before .loop-test .taken)
+    (sym (c .before .meets .ensures) ∙ not-true _ (c .if1 .taken))
 
 cut-requires : tie.Need-cut-requires Inv-loop μ-loop
 cut-requires c κs = search needs
@@ -73,17 +75,22 @@ loop-again c =
     (omega arith, pass-more _ _ (omega arith) (l .loop .inv .1) meets (s .before .cut .ensures) inside same)
 
 returns-2 : tie.Need-returns-2 Inv-loop μ-loop
-returns-2 c = rw (c .if2 .taken) at (pass-decides _ _ (c .before .before .loop .inv .0) (c .before .loop-test .left) (c .before .before .loop .inv .1))
+returns-2 c =
+    rw (c .if2 .taken) at
+    (pass-decides _ _ (c .before .before .loop .inv .0) (c .before .loop-test .left)
+    (c .before .before .loop .inv .1))
 
 returns-3 : tie.Need-returns-3 Inv-loop μ-loop
 returns-3 c =
     let l = c .before .before .before .loop in
-    rw (c .before .if2 .left, c .if3 .taken) at (pass-decides _ _ (l .inv .0) (c .before .before .loop-test .left) (l .inv .1))
+    rw (c .before .if2 .left, c .if3 .taken) at
+    (pass-decides _ _ (l .inv .0) (c .before .before .loop-test .left) (l .inv .1))
 
 returns-4 : tie.Need-returns-4 Inv-loop μ-loop
 returns-4 c =
     let l = c .before .before .before .loop in
-    rw (c .before .if2 .left, c .if3 .left) at (pass-decides _ _ (l .inv .0) (c .before .before .loop-test .left) (l .inv .1))
+    rw (c .before .if2 .left, c .if3 .left) at
+    (pass-decides _ _ (l .inv .0) (c .before .before .loop-test .left) (l .inv .1))
 
 pub decide-spec : {M : Type 1} → statement M
 decide-spec =
