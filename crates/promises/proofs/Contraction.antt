@@ -33,7 +33,7 @@ use Rattle.run.proofs.Hold.{hold-middle, hold-quotient, middle-in, image-holds}
 use Rattle.run.specs.Meanings.{Strictly}
 use Rattle.intervals.specs.declared.Interval.{Interval}
 use Rattle.jobs.specs.declared.Equation.{Equation}
-use Rattle.promises.specs.Claims.{Ordered, widthOf, Largest}
+use Rattle.promises.specs.Claims.{Ordered, widthOf, innerOf, Largest}
 use Rattle.promises.proofs.Largest.{largest}
 
 -- ---- a number times the ends of an interval
@@ -123,7 +123,7 @@ module _ (n : ℕ) (q : ℕ → Equation) (C : ℕ → ℕ → ℤ) (X : ℕ →
 
   module _ (strictly : Strictly n X (imageOf n q C X)) where
     -- K strictly inside X: E is narrower than X by 2 marks at least
-    narrow : (i : ℕ) → i < n → (E i .hi -ℤ E i .lo) ≤ℤ (widthOf X i -ℤ pos 2)
+    narrow : (i : ℕ) → i < n → (E i .hi -ℤ E i .lo) ≤ℤ innerOf X i
     unfolding imageOf addI negI widthOf
     narrow i l =
         let low = strictly i l .0 in
@@ -141,13 +141,13 @@ module _ (n : ℕ) (q : ℕ → Equation) (C : ℕ → ℕ → ℤ) (X : ℕ →
 
     -- the sharper form: the row's weighed sum falls short of the width by 2 marks
     pub row-sum : {P R : ℕ → ℤ} {d : ℤ} → InBox n P d X → InBox n R d X → (i : ℕ) → i < n
-        → sumTo n (λ j. absℤ (quotientNum n q C P R d i j) *ℤ widthOf X j) ≤ℤ ((widthOf X i -ℤ pos 2) *ℤ newtonScale d)
+        → sumTo n (λ j. absℤ (quotientNum n q C P R d i j) *ℤ widthOf X j) ≤ℤ (innerOf X i *ℤ newtonScale d)
     row-sum h g i l = omega (zorder, spread h g i, mul-mono-r (narrow i l) (nonneg (scale-pos (h .den))))
 
     -- points at most s / t widths apart have images at most s / t of the widths less 2 marks apart
     pub contracts : {P R : ℕ → ℤ} {d : ℤ} (s t : ℤ) → pos 0 ≤ℤ s → pos 0 ≤ℤ t → InBox n P d X → InBox n R d X
         → ((j : ℕ) → j < n → (gap P R j *ℤ t) ≤ℤ (s *ℤ widthOf X j))
-        → (i : ℕ) → i < n → (gap (newtonNum n q C P d) (newtonNum n q C R d) i *ℤ t) ≤ℤ (s *ℤ ((widthOf X i -ℤ pos 2) *ℤ newtonScale d))
+        → (i : ℕ) → i < n → (gap (newtonNum n q C P d) (newtonNum n q C R d) i *ℤ t) ≤ℤ (s *ℤ (innerOf X i *ℤ newtonScale d))
     contracts {P} {R} {d} s t s0 t0 h g near i l = rw (newton-diff n q C P R d i l) (omega (zorder, sum, parts, each, mul-mono-l (row-sum h g i l) s0))
       where
         B : ℕ → ℤ
@@ -200,7 +200,7 @@ module _ (n : ℕ) (q : ℕ → Equation) (C : ℕ → ℕ → ℤ) (X : ℕ →
         D : ℤ
         D = gap P R (f .place)
 
-        far : (gap (newtonNum n q C P d) (newtonNum n q C R d) i *ℤ widthOf X (f .place)) ≤ℤ (D *ℤ ((widthOf X i -ℤ pos 2) *ℤ newtonScale d))
+        far : (gap (newtonNum n q C P d) (newtonNum n q C R d) i *ℤ widthOf X (f .place)) ≤ℤ (D *ℤ (innerOf X i *ℤ newtonScale d))
         far = contracts D (widthOf X (f .place)) (abs-nonneg (P (f .place) -ℤ R (f .place))) (nonneg (positive (f .place) (f .live))) h g (f .most) i l
 
         more : D *ℤ (widthOf X i *ℤ newtonScale d) ≡ D *ℤ ((widthOf X i -ℤ pos 2) *ℤ newtonScale d) +ℤ pos 2 *ℤ (D *ℤ newtonScale d)

@@ -58,6 +58,10 @@ apart p r k = absℤ (p .num k *ℤ r .den -ℤ r .num k *ℤ p .den)
 unfoldable pub widthOf : (ℕ → Interval) → ℕ → ℤ
 widthOf X k = X k .hi -ℤ X k .lo
 
+-- the width less 2 marks
+abbrev pub innerOf : (ℕ → Interval) → ℕ → ℤ
+innerOf X k = widthOf X k -ℤ pos 2
+
 -- a place below n where u k / w k is largest
 pub record Largest (n : ℕ) (u w : ℕ → ℤ) : Type 0 where
   pub place : ℕ
@@ -78,7 +82,7 @@ pub record Sharper (n : ℕ) (q : ℕ → Equation) (C : ℕ → ℕ → ℤ) (X
   pub within : (P R : ℕ → ℤ) (d u v : ℤ) → pos 0 ≤ℤ u → pos 0 ≤ℤ v → InBox n P d X → InBox n R d X
       → ((k : ℕ) → k < n → (absℤ (P k -ℤ R k) *ℤ v) ≤ℤ (u *ℤ widthOf X k))
       → (i : ℕ) → i < n
-      → (absℤ (newtonNum n q C P d i -ℤ newtonNum n q C R d i) *ℤ v) ≤ℤ (u *ℤ ((widthOf X i -ℤ pos 2) *ℤ newtonScale d))
+      → (absℤ (newtonNum n q C P d i -ℤ newtonNum n q C R d i) *ℤ v) ≤ℤ (u *ℤ (innerOf X i *ℤ newtonScale d))
 
 -- ---- the run
 -- n equations of degree 3 at most, a proposed inverse and a starting box: what the run takes from an accepted job
