@@ -6,6 +6,7 @@ use lib.IntN.{ℤ, _-ℤ_, _*ℤ_, *ℤ-comm}
 use lib.Signed.{_<ℤ_}
 use Rattle.sizes.specs.Sizes.{degreeMax}
 use Rattle.integers.specs.Absolute.{absℤ}
+use Rattle.integers.proofs.Parts.{zorder}
 use Rattle.integers.proofs.Ring.{_⊖_, _⊗_, ring}
 use Rattle.integers.proofs.Order.{mul-lt-r, nonneg, pos-mul}
 use Rattle.integers.proofs.Absolute.{abs-pos, abs-mul}
@@ -16,7 +17,7 @@ use Rattle.run.specs.Newton.{newtonScale, newtonDen, newtonNum}
 use Rattle.run.specs.Meanings.{Strictly}
 use Rattle.intervals.specs.declared.Interval.{Interval}
 use Rattle.jobs.specs.declared.Equation.{Equation}
-use Rattle.promises.specs.Claims.{Ordered, Point, Lies, Same, Zero, newtonOf, apart, widthOf, Largest, Closer}
+use Rattle.promises.specs.Claims.{Ordered, Point, Lies, Same, Zero, newtonOf, apart, widthOf, Largest, CloserAt, Closer}
 use Rattle.promises.proofs.Contraction.{gap, farthest, contraction, one-zero}
 use Rattle.promises.proofs.Scale.{times, power-mul, box-scale, zero-scale, newton-scale, fixedDen, fixed-pos, den-fixed}
 
@@ -79,15 +80,18 @@ module _ (n : ℕ) (q : ℕ → Equation) (C : ℕ → ℕ → ℤ) (x : List In
       over : (i : ℕ) → i < n → (G i *ℤ w (far .place)) <ℤ (apart p r (far .place) *ℤ (w i *ℤ newtonScale (d *ℤ e)))
       over i l = unfold apart in (contraction n q C (sideAt x) degrees order strictly left right apart-from far i l)
 
-      smaller : (i : ℕ) → i < n
-          → ((apart (newtonOf n q C p) (newtonOf n q C r) i *ℤ w (far .place)) *ℤ (d *ℤ e)) <ℤ ((apart p r (far .place) *ℤ w i) *ℤ (newtonDen d *ℤ newtonDen e))
-      smaller i l = rw (images-gap i, less, more) (mul-lt-r (over i l) (pos-mul fixed-pos (left .den)))
+      smaller : (i : ℕ) → i < n → CloserAt n q C x p r (far .place) i
+      smaller i l = omega (zorder, images, more, mul-lt-r (over i l) (pos-mul fixed-pos (left .den)))
         where
           A : ℤ
           A = apart p r (far .place)
 
-          less : ((G i *ℤ fixedDen) *ℤ w (far .place)) *ℤ (d *ℤ e) ≡ (G i *ℤ w (far .place)) *ℤ (fixedDen *ℤ (d *ℤ e))
-          less = ring (G i ∷ fixedDen ∷ w (far .place) ∷ (d *ℤ e) ∷ []) (λ g f w z. ((g ⊗ f) ⊗ w) ⊗ z) (λ g f w z. (g ⊗ w) ⊗ (f ⊗ z)) refl
+          images : (apart (newtonOf n q C p) (newtonOf n q C r) i *ℤ w (far .place)) *ℤ (d *ℤ e)
+              ≡ (G i *ℤ w (far .place)) *ℤ (fixedDen *ℤ (d *ℤ e))
+          images =
+              rw (images-gap i)
+              (ring (G i ∷ fixedDen ∷ w (far .place) ∷ (d *ℤ e) ∷ [])
+              (λ g f w z. ((g ⊗ f) ⊗ w) ⊗ z) (λ g f w z. (g ⊗ w) ⊗ (f ⊗ z)) refl)
 
           dens : newtonDen d *ℤ newtonDen e ≡ fixedDen *ℤ newtonDen (d *ℤ e)
           dens =

@@ -68,13 +68,19 @@ pub record Largest (n : ℕ) (u w : ℕ → ℤ) : Type 0 where
   pub live : place < n
   pub most : (k : ℕ) → k < n → (u k *ℤ w place) ≤ℤ (u place *ℤ w k)
 
--- "gets strictly smaller": where the points p and r differ most in widths of x, their difference is larger than that of their images in every coordinate i:
--- |Np i - Nr i| / width i < |p - r| / width at that place, with Np and Nr the images and every denominator multiplied out
-pub record Closer (n : ℕ) (q : ℕ → Equation) (C : ℕ → ℕ → ℤ) (x : List Interval) (p r : Point) : Type 0 where
-  pub farthest : Largest n (apart p r) (widthOf (sideAt x))
-  pub smaller : (i : ℕ) → i < n
-      → ((apart (newtonOf n q C p) (newtonOf n q C r) i *ℤ widthOf (sideAt x) (farthest .place)) *ℤ (p .den *ℤ r .den))
-      <ℤ ((apart p r (farthest .place) *ℤ widthOf (sideAt x) i) *ℤ (newtonOf n q C p .den *ℤ newtonOf n q C r .den))
+module _ (n : ℕ) (q : ℕ → Equation) (C : ℕ → ℕ → ℤ) (x : List Interval) (p r : Point) where
+  -- |Np i - Nr i| / width i < |p f - r f| / width f, with Np and Nr the images of p and r and every denominator
+  -- multiplied out
+  abbrev pub CloserAt : ℕ → ℕ → Type 0
+  CloserAt f i =
+      ((apart (newtonOf n q C p) (newtonOf n q C r) i *ℤ widthOf (sideAt x) f) *ℤ (p .den *ℤ r .den))
+      <ℤ ((apart p r f *ℤ widthOf (sideAt x) i) *ℤ (newtonOf n q C p .den *ℤ newtonOf n q C r .den))
+
+  -- "gets strictly smaller": where the points p and r differ most in widths of x, their difference is larger than that
+  -- of their images in every coordinate i
+  pub record Closer : Type 0 where
+    pub farthest : Largest n (apart p r) (widthOf (sideAt x))
+    pub smaller : (i : ℕ) → i < n → CloserAt (farthest .place) i
 
 -- the same in whole numbers and sharper, for points P and R over one denominator d: where they are at most u / v widths apart in each coordinate, their
 -- images are at most u / v of the widths less 2 marks apart
