@@ -2,7 +2,6 @@
 -- written again is the same bytes, and no answer is longer than a text may be.
 use Prim.Native.Nat.{ℕ, _≤_}
 use native.Mathlib.Nat.{le-trans}
-use native.Mathlib.Omega.{arith}
 use mathlib.Core.Path.{_≡_, refl, ap}
 use mathlib.Core.Bool.{Bool, true, false, cond}
 use mathlib.Core.List.{List}
@@ -28,6 +27,7 @@ use Rattle.jobs.specs.declared.Status.{Status}
 use Rattle.jobtext.specs.declared.JobRead.{JobRead}
 use Rattle.resulttext.specs.declared.ResultRead.{ResultRead}
 use Rattle.desk.specs.Desk.{jobStatus, jobText, resultStatus, resultText, runStatus, runText, solveStatus, solveText}
+use Rattle.run.proofs.Decisions.{zero-one}
 use Rattle.answered.proofs.Results.{run-done, run-checked, run-short}
 
 -- what follows a reading without a fault has none
@@ -41,9 +41,6 @@ long-enough : (st : Status) (t old : List ℕ) → (st ≡ Status.Done → lengt
 unfolding answerOf
 long-enough Status.Done t old h = rw (le-ltb (length old) (length t) (h refl)) refl
 long-enough (Status.Refused f line) t old h = refl
-
-zero-one : _≡_ {A = ℕ} 0 1 → ⊥
-zero-one e = omega arith
 
 module _ (t : List ℕ) where
   job-read : readJob t .status ≡ Status.Done → readJob t ≡ record { status = Status.Done; job = readJob t .job }

@@ -21,6 +21,7 @@ use Rattle.jobs.specs.declared.Result.{Result}
 use Rattle.jobs.specs.declared.Status.{Status}
 use Rattle.writing.specs.Answer.{refused, answerOf, Leaves}
 use Rattle.writing.specs.declared.Written.{Written}
+use Rattle.run.proofs.Decisions.{zero-one}
 use Rattle.run.specs.Job.{answerBy, runJob}
 use Rattle.joblines.specs.Reading as jobs
 use Rattle.jobtext.specs.declared.JobRead.{JobRead}
@@ -31,9 +32,6 @@ use Rattle.resulttext.specs.ResultText as result
 use Rattle.answered.specs.Numbers.{Told, told, tell, orElse, shortBuffer, Row, firstGiven, eachLine, systemRows, jobRows, resultRows}
 use Rattle.answered.proofs.Rows.{Tells, before, job-tells, result-tells}
 use Rattle.answered.proofs.Lines.{not-whole, job-lines, result-lines}
-
-zero-one : _≡_ {A = ℕ} 0 1 → ⊥
-zero-one e = omega arith
 
 -- ---- values
 before-none : (st : Status) → before st (tell 0 0) ≡ told st

@@ -16,6 +16,7 @@ use Rattle.text.specs.declared.Numbers.{Numbers}
 use Rattle.jobs.specs.Ranges.{allWithin, allOrdered}
 use Rattle.jobs.specs.Words.{numberOf}
 use Rattle.jobs.specs.Checks.{andThen, refusedUnless, unknownsLine, lowLine, highLine, inverseLine, equationLine, rowLine, sidedLine}
+use Rattle.run.proofs.Decisions.{zero-one}
 use Rattle.jobs.specs.declared.Fault.{Fault}
 use Rattle.jobs.specs.declared.Kind.{Kind}
 use Rattle.jobs.specs.declared.Job.{Job}
@@ -60,9 +61,6 @@ OfLine st = Of {S = Status} (λ st. st) st
 pub not-whole : {st : Status} → OfLine st → (numberOf st ≡ 1 → ⊥) × (numberOf st ≡ 7 → ⊥)
 not-whole {st} h = by st (h .line)
   where
-    zero-one : _≡_ {A = ℕ} 0 1 → ⊥
-    zero-one e = omega arith
-
     by : (st : Status) → lineStatus st ≡ true → (numberOf st ≡ 1 → ⊥) × (numberOf st ≡ 7 → ⊥)
     by Status.Done e = (λ n. omega arith, λ n. omega arith)
     by (Status.Refused Fault.LongText line) e = absurd (zero-one (cc))

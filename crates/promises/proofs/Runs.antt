@@ -25,11 +25,8 @@ use Rattle.run.specs.Decide.{allMeet, cutBox, decideOf}
 use Rattle.run.specs.Meanings.{Strictly}
 use Rattle.run.specs.Run.{outcome, settle, imageBox, stepOf, runOf}
 use Rattle.run.proofs.Hold.{middle-in, image-holds, image-keeps, image-at}
-use Rattle.run.proofs.Decisions.{Decided, none, unique, stalled, next, decided, all-meet, cut-at, cut-inside, cut-ordered, step-is}
+use Rattle.run.proofs.Decisions.{zero-one, Decided, none, unique, stalled, next, decided, all-meet, cut-at, cut-inside, cut-ordered, step-is}
 use Rattle.promises.specs.Claims.{Ordered, BoxInside}
-
-pub zero-one : _≡_ {A = ℕ} 0 1 → ⊥
-zero-one e = omega arith
 
 false-true : {b : Bool} → b ≡ false → b ≡ true → ⊥
 false-true e h = zero-one (cc)

@@ -3,6 +3,7 @@ use mathlib.Core.Path.{_≡_, refl}
 use mathlib.Core.Bool.{Bool, true, false}
 use mathlib.Core.List.{List}
 use Prim.Native.Nat.{ℕ, _≤_, _<_}
+use native.Mathlib.Omega.{arith}
 use lib.IntN.{ℤ}
 use lib.Signed.{_≤ℤ_, ltZ}
 use Rattle.sizes.specs.Sizes.{nMax}
@@ -22,6 +23,10 @@ use Rattle.run.specs.Meanings.{Strictly}
 use Rattle.run.specs.Decide.{allMeet, allInside, cutSame, cutBox, decision, decideOf}
 use Rattle.run.specs.Run.{imageBox, stepOf}
 use Rattle.intervals.proofs.Meeting as intervals
+
+-- two that differ, by `cc`
+pub zero-one : _≡_ {A = ℕ} 0 1 → ⊥
+zero-one e = omega arith
 
 module _ (n : ℕ) (x k : List Interval) where
   -- the decision, with what its tests found

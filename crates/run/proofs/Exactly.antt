@@ -22,10 +22,7 @@ use Rattle.intervals.specs.declared.Interval.{Interval}
 use Rattle.run.specs.declared.Move.{Move}
 use Rattle.run.specs.Decide.{allMeet, allInside, cutSame, decideOf}
 use Rattle.run.specs.Meanings.{Apart, Strict, Covered, Empty, Strictly, Unchanged}
-use Rattle.run.proofs.Decisions.{Decided, none, unique, stalled, next, decided}
-
-zero-one : _≡_ {A = ℕ} 0 1 → ⊥
-zero-one e = omega arith
+use Rattle.run.proofs.Decisions.{zero-one, Decided, none, unique, stalled, next, decided}
 
 -- ---- the tests of one coordinate
 lt-ltZ : (a b : ℤ) → a <ℤ b → ltZ a b ≡ true
