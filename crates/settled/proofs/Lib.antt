@@ -2,3 +2,4 @@ pub mod Run
 pub mod Desk
 pub mod ForC
 pub mod Framing
+pub mod Units

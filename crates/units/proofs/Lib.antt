@@ -1,0 +1,4 @@
+pub mod Decimals
+pub mod Exact
+pub mod Short
+pub mod Both

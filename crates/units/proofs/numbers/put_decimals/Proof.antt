@@ -1,0 +1,111 @@
+-- `units::numbers::put_decimals` meets its contract.
+use borrow.Author.Needs.{needs}
+use Prim.Native.Nat.{ℕ, _+_, _-_, _*_, _/_, _≤_, _<_}
+use native.Mathlib.Omega.{arith}
+use mathlib.Core.Path.{_≡_, refl, sym, ap, _∙_}
+use mathlib.Core.List.{List, [], _∷_, _++_, append-assoc, append-nil}
+use Rattle.digits.specs.Bytes.{digit0}
+use Rattle.writing.specs.Wrote.{Wrote}
+use Rattle.writing.proofs.Wrote.{wrote-append, wrote-none, wrote-length}
+use Rattle.units.specs.Units.{unit, decimalsMax, decimals}
+use Rattle.units.proofs.Decimals.{none-left, no-more, one-more}
+use Rattle.units.proofs.numbers.put_decimals.Statement.{statement}
+use Rattle.units.proofs.numbers.put_decimals.Tie as tie
+
+-- what is written, and what is still to come
+record Inv (old new : List ℕ) (at r p left k : ℕ) : Type 0 where
+  few : k ≤ decimalsMax
+  small : left < unit
+  room : p ≤ at + k
+  done : List ℕ
+  wrote : Wrote old new at p done
+  whole : done ++ decimals (decimalsMax - k) left ≡ decimals decimalsMax r
+
+abbrev Inv-loop : tie.InvT-loop
+Inv-loop buf₀ at r p₀ left₀ k₀ buf p left k = Inv buf₀ buf at r p left k
+
+abbrev μ-loop : tie.MeasureT-loop
+μ-loop buf₀ at r p₀ left₀ k₀ buf p left k = decimalsMax - k
+
+loop-holds : tie.Need-loop-holds Inv-loop μ-loop
+loop-holds c = record {
+  few = omega arith;
+  small = omega arith;
+  room = omega arith;
+  done = [];
+  wrote = wrote-none _ _;
+  whole = refl;
+}
+
+same-length : tie.Need-same-length Inv-loop μ-loop
+same-length c = wrote-length (c .before .before .loop .inv .wrote)
+
+returns : tie.Need-returns Inv-loop μ-loop
+returns c =
+    let l = c .before .before .loop in
+    let all = ap (λ (x : List ℕ). l .inv .done ++ x) (none-left (decimalsMax - l .k) (l .left) (c .if1 .taken)) ∙ append-nil (l .inv .done) in
+    rw (sym all ∙ l .inv .whole) at (l .inv .wrote)
+
+mul-tens : tie.Need-mul-tens Inv-loop μ-loop
+mul-tens c = omega (arith, c .before .before .loop .inv .small)
+
+add-put-byte : tie.Need-add-put-byte Inv-loop μ-loop
+add-put-byte c = omega (arith, c .before .before .before .loop .inv .small)
+
+cast-put-byte : tie.Need-cast-put-byte Inv-loop μ-loop
+cast-put-byte c = omega (arith, c .before .before .before .loop .inv .small)
+
+put-byte-requires : tie.Need-put-byte-requires Inv-loop μ-loop
+put-byte-requires c κs = omega (arith, c .before .before .before .loop .inv .room, c .before .before .before .before .before .pre .0)
+
+add-k : tie.Need-add-k Inv-loop μ-loop
+add-k c = omega arith
+
+loop-less : tie.Need-loop-less Inv-loop μ-loop
+loop-less c = omega arith
+
+loop-again : tie.Need-loop-again Inv-loop μ-loop
+loop-again c =
+    let l = c .before .before .before .before .before .before .loop in
+    let test = c .before .before .before .before .before .loop-test .taken in
+    let byte = c .before .before .put-byte .ensures in
+    let next = one-more (decimalsMax - l .k) (l .left) (omega arith) (c .before .before .before .before .if1 .left) in
+    let e : decimalsMax - l .k - 1 ≡ decimalsMax - (l .k + 1) = omega arith in
+    let b : ℕ = digit0 + l .left * 10 / unit in
+    record {
+      few = omega arith;
+      small = omega arith;
+      room = omega (arith, byte .next, l .inv .room);
+      done = l .inv .done ++ (b ∷ []);
+      wrote = wrote-append (l .inv .wrote) byte;
+      whole = append-assoc (l .inv .done) (b ∷ []) _ ∙ ap (λ (x : List ℕ). l .inv .done ++ x) (sym (rw e at next)) ∙ l .inv .whole;
+    }
+
+same-length-2 : tie.Need-same-length-2 Inv-loop μ-loop
+same-length-2 c = wrote-length (c .before .loop .inv .wrote)
+
+returns-2 : tie.Need-returns-2 Inv-loop μ-loop
+returns-2 c =
+    let l = c .before .loop in
+    let z : decimalsMax - l .k ≡ 0 = omega (arith, c .loop-test .left) in
+    let all = ap (λ (x : List ℕ). l .inv .done ++ x) (no-more (decimalsMax - l .k) (l .left) z) ∙ append-nil (l .inv .done) in
+    rw (sym all ∙ l .inv .whole) at (l .inv .wrote)
+
+pub put-decimals-spec : {M : Type 1} → statement M
+put-decimals-spec =
+    tie.close
+    (tie.spec
+    Inv-loop
+    μ-loop
+    loop-holds
+    same-length
+    returns
+    mul-tens
+    add-put-byte
+    cast-put-byte
+    put-byte-requires
+    add-k
+    loop-less
+    loop-again
+    same-length-2
+    returns-2)

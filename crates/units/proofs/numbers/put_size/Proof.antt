@@ -1,0 +1,30 @@
+-- `units::numbers::put_size` meets its contract.
+use borrow.Author.Needs.{needs}
+use Prim.Native.Nat.{_/_}
+use native.Mathlib.Omega.{arith}
+use Rattle.digits.specs.Number.{digitsMax}
+use Rattle.digits.proofs.Show.{show-short}
+use Rattle.writing.proofs.Wrote.{wrote-append}
+use Rattle.units.specs.Units.{unit, showSize}
+use Rattle.units.proofs.numbers.put_size.Statement.{statement}
+use Rattle.units.proofs.numbers.put_size.Tie as tie
+
+put-magnitude-requires : tie.Need-put-magnitude-requires
+put-magnitude-requires c κs = search needs
+
+put-fraction-requires : tie.Need-put-fraction-requires
+put-fraction-requires c κs =
+    let whole = c .before .before .before in
+    let start = whole .before .before .before in
+    (omega (arith, whole .put-magnitude .ensures .next, show-short digitsMax (start .args .m / unit), start .pre), omega arith)
+
+same-length : tie.Need-same-length
+same-length c = search needs
+
+returns : tie.Need-returns
+unfolding showSize
+returns c = wrote-append (c .before .before .before .before .before .before .put-magnitude .ensures) (c .before .before .put-fraction .ensures)
+
+pub put-size-spec : {M : Type 1} → statement M
+put-size-spec =
+    tie.close (tie.spec put-magnitude-requires put-fraction-requires same-length returns)

@@ -1,0 +1,58 @@
+-- `units::put_both` meets its contract.
+use borrow.Author.Needs.{needs}
+use Prim.Native.Nat.{_≤_}
+use native.Mathlib.Omega.{arith}
+use native.Mathlib.Nat.{zero-add}
+use mathlib.Core.Path.{ap, _∙_}
+use lib.ListN.{length}
+use Rattle.writing.proofs.Answer.{no-room, all-written}
+use Rattle.units.specs.Show.{unitsOf}
+use Rattle.units.proofs.Both.{both-written, both-length}
+use Rattle.units.proofs.put_both.Statement.{statement}
+use Rattle.units.proofs.put_both.Tie as tie
+
+slice-aggregate-put-unknowns : tie.Need-slice-aggregate-put-unknowns
+slice-aggregate-put-unknowns c = search needs
+
+put-unknowns-requires : tie.Need-put-unknowns-requires
+put-unknowns-requires c κs = search needs
+
+returns : tie.Need-returns
+returns c =
+    let start = c .before .before .before .before .before .before .before .before in
+    let r = start .args .r in
+    no-room (unitsOf r) (start .args .out .now)
+    (omega (arith, c .if1 .taken, c .before .before .put-unknowns .ensures .next, both-length r, ap length (start .pre .text)))
+
+put-bytes-requires : tie.Need-put-bytes-requires
+put-bytes-requires c κs = search needs
+
+put-unknowns-requires-2 : tie.Need-put-unknowns-requires-2
+put-unknowns-requires-2 c κs = search needs
+
+same-length : tie.Need-same-length
+same-length c = search needs
+
+returns-2 : tie.Need-returns-2
+returns-2 c =
+    let bytes = c .before .before .before .before .before .before in
+    let test = bytes .before .before in
+    let measure = test .before .before in
+    let start = measure .before .before .before .before .before .before in
+    let r = start .args .r in
+    let wrote = both-written r (start .pre .text) (bytes .put-bytes .ensures) (c .before .before .put-unknowns2 .ensures) in
+    let fits : length (unitsOf r) ≤ length (start .args .out .now) =
+    omega (arith, test .if1 .left, measure .put-unknowns .ensures .next, both-length r, ap length (start .pre .text)) in
+    rw (wrote .next ∙ zero-add (length (unitsOf r))) (all-written (unitsOf r) (start .args .out .now) fits wrote)
+
+pub put-both-spec : {M : Type 1} → statement M
+put-both-spec =
+    tie.close
+    (tie.spec
+    slice-aggregate-put-unknowns
+    put-unknowns-requires
+    returns
+    put-bytes-requires
+    put-unknowns-requires-2
+    same-length
+    returns-2)

@@ -1,0 +1,3 @@
+pub mod Units
+pub mod Denotes
+pub mod Show
