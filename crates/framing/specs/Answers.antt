@@ -53,6 +53,7 @@ toldOf (Status.Refused f line) len old = faultBytes (Status.Refused f line)
 pub record Tells (a : Written) (old new : List ℕ) (r : ℕ) : Type 0 where
   pub count : r ≡ length (toldOf (a .status) (a .len) old)
   pub bytes : new ≡ toldOf (a .status) (a .len) old ++ drop r old
+  pub small : r ≤ roomMax
   pub inside : r ≤ length new
   pub whole : r ≡ length (take r new)
 

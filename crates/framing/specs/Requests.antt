@@ -1,5 +1,6 @@
 -- The line of a request, without its LF: what is asked, one space, and the length of the text that follows.
-use Prim.Native.Nat.{ℕ, zero, suc, _+_, _-_, _*_, min}
+use Prim.Native.Nat.{ℕ, zero, suc, _+_, _-_, _*_, _≤_, min}
+use mathlib.Core.Path.{_≡_}
 use mathlib.Core.List.{List, [], _∷_}
 use mathlib.Core.Bool.{Bool, false, cond}
 use lib.ListN.{length, getD, take, drop}
@@ -67,6 +68,10 @@ asked Named.Unknown n = Request.Bad
 unfoldable pub afterSpace : ℕ → List ℕ → ℕ
 afterSpace zero l = 0
 afterSpace (suc i) l = cond (eqb (getD l i 0) space) (suc i) (afterSpace i l)
+
+pub record AfterSpace (r : ℕ) (l : List ℕ) : Type 0 where
+  pub is : r ≡ afterSpace (length l) l
+  pub inside : r ≤ length l
 
 -- what is asked stands before the last space, the length behind it
 unfoldable pub split : ℕ → List ℕ → Request

@@ -36,7 +36,7 @@ fn put_fault(out: &mut [u8], f: Fault, line: u64) -> usize
 }
 
 fn tell_in(a: Written, out: &mut [u8]) -> usize
-    requires { ⌜ roomMax ≤ length (now out) ⌝ }
+    requires { ⌜ length (now out) ≡ roomMax ⌝ }
     ensures { λ r. ⌜ Tells a (now (out .entry)) (now (out .exit)) r ⌝ }
 {
     let status = a.status;

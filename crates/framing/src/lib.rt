@@ -1,4 +1,5 @@
-// Many requests in one run, as bytes: a request is a line `OP ARGS.. LENGTH` and LF, then LENGTH bytes of text; an answer is a line with its length, then its bytes.
+// Many requests in one run, as bytes: a request is a line `OP ARGS.. LENGTH` and LF, then LENGTH bytes of text; an
+// answer is a line with its length, then its bytes.
 pub mod answers;
 pub mod packets;
 pub mod requests;

@@ -17,7 +17,7 @@ pub enum Seen {
     Ask(Op),
 }
 
-// What is kept of the text stands from..to among the bytes at hand, and behind them `passed` bytes are to be passed over.
+// What is kept of the text stands from..to among the bytes at hand; behind it `passed` bytes are to be passed over.
 pub struct Packet {
     pub seen: Seen,
     pub from: usize,

@@ -1,9 +1,9 @@
 // The line of a request: what is asked stands before the last space, the length of its text behind it.
 ghost use mathlib.Core.Path.{_≡_};
-ghost use Prim.Native.Nat.{_+_, _*_, _≤_};
-ghost use lib.ListN.{length};
+ghost use Prim.Native.Nat.{_+_, _*_};
 ghost use Rattle.framing.specs.declared.requests.Named.{Named};
-ghost use Rattle.framing.specs.Requests.{operationOf, capped, valueFrom, isSpelled, lengthOf, asked, afterSpace, requestOf};
+ghost use Rattle.framing.specs.Requests.{operationOf, capped, valueFrom, isSpelled, lengthOf};
+ghost use Rattle.framing.specs.Requests.{asked, afterSpace, AfterSpace, requestOf};
 use termtext::all_digits;
 use termtext::digit;
 use text::same_bytes;
@@ -95,7 +95,7 @@ fn length_of(s: &[u8]) -> Length
 
 // The place behind the last space; 0 where there is none.
 fn after_space(line: &[u8]) -> usize
-    ensures { λ r. ⌜ (r ≡ afterSpace (length (now (line .entry))) (now (line .entry))) × (r ≤ length (now (line .entry))) ⌝ }
+    ensures { λ r. ⌜ AfterSpace r (now (line .entry)) ⌝ }
 {
     let mut i = line.len();
     while i > 0 {

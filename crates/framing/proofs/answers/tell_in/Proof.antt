@@ -15,18 +15,22 @@ enum-told : tie.Need-enum-told
 enum-told c = search needs
 
 returns : tie.Need-returns
-returns c = told-text _ _ (c .before .before .enum-told .given .1) (c .if1 .taken)
+returns c =
+    let start = c .before .before .before .before .before in
+    told-text _ _ (start .pre) (c .before .before .enum-told .given .1) (c .if1 .taken)
 
 same-length : tie.Need-same-length
 same-length c = search needs
 
 returns-2 : tie.Need-returns-2
 returns-2 c =
-    let start = c .before .before .before .before .before .before .before .before in
-    told-fault _ _ _ _ (start .pre) (c .before .before .before .before .before .status .given .1) (c .before .before .put-fault .ensures)
+    let match = c .before .before .before .before .before in
+    told-fault _ _ (match .before .before .before .pre) _ _ (match .status .given .1) (c .before .before .put-fault .ensures)
 
 returns-3 : tie.Need-returns-3
-returns-3 c = told-all _ _ (c .before .before .enum-told .given .1) (omega (arith, c .if1 .left))
+returns-3 c =
+    let start = c .before .before .before .before .before in
+    told-all _ _ (start .pre) (c .before .before .enum-told .given .1) (omega (arith, c .if1 .left))
 
 pub tell-in-spec : {M : Type 1} → statement M
 tell-in-spec =

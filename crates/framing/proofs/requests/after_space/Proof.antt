@@ -46,7 +46,10 @@ shared-slice-read-if1 c = omega (arith, c .before .before .loop .inv .inside)
 returns : tie.Need-returns Inv-loop μ-loop
 returns c =
     let l = c .before .before .before .loop in
-    (sym (found _ _ (c .before .before .loop-test .taken) (c .if1 .taken)) ∙ l .inv .same, l .inv .inside)
+    record {
+      is = sym (found _ _ (c .before .before .loop-test .taken) (c .if1 .taken)) ∙ l .inv .same;
+      inside = l .inv .inside;
+    }
 
 sub-i : tie.Need-sub-i Inv-loop μ-loop
 sub-i c = search needs
@@ -67,7 +70,7 @@ unfolding afterSpace
 returns-2 c =
     let l = c .before .loop in
     let z : l .i ≡ 0 = omega (arith, c .loop-test .left) in
-    (rw z at (l .inv .same), omega arith)
+    record { is = rw z at (l .inv .same); inside = omega arith }
 
 pub after-space-spec : {M : Type 1} → statement M
 after-space-spec =

@@ -14,13 +14,13 @@ after-space-requires c κs = search needs
 
 returns : tie.Need-returns
 unfolding requestOf split
-returns c = rw (← c .before .after-space .ensures .0, eq-eqb _ _ (c .if1 .taken))
+returns c = rw (← c .before .after-space .ensures .is, eq-eqb _ _ (c .if1 .taken))
 
 sub-end : tie.Need-sub-end
 sub-end c = search needs
 
 slice-aggregate-operation : tie.Need-slice-aggregate-operation
-slice-aggregate-operation c = sym (length-take-le _ _ (omega (arith, c .before .before .after-space .ensures .1)))
+slice-aggregate-operation c = sym (length-take-le _ _ (omega (arith, c .before .before .after-space .ensures .inside)))
 
 operation-requires : tie.Need-operation-requires
 operation-requires c κs = search needs
@@ -45,7 +45,8 @@ unfolding requestOf split
 returns-2 c =
     let test = c .before .before .before .before .before in
     let start = test .before .before .before in
-    rw (← test .before .after-space .ensures .0, ne-eqb _ _ (test .if1 .left), ← to-end (test .before .after-space .result) (start .args .line .now))
+    let space = test .before .after-space in
+    rw (← space .ensures .is, ne-eqb _ _ (test .if1 .left), ← to-end (space .result) (start .args .line .now))
     (rw (← c .before .before .before .operation .ensures, ← c .before .length-of .ensures) (c .made .ensures))
 
 pub request-of-spec : {M : Type 1} → statement M
