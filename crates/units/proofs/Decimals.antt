@@ -20,7 +20,8 @@ pub no-more : (k r : ℕ) → k ≡ 0 → decimals k r ≡ []
 unfolding decimals
 no-more k r e = rw e
 
-pub one-more : (k r : ℕ) → 0 < k → (r ≡ 0 → ⊥) → decimals k r ≡ (digit0 + r * 10 / unit) ∷ decimals (k - 1) (r * 10 % unit)
+pub one-more : (k r : ℕ) → 0 < k → (r ≡ 0 → ⊥)
+    → decimals k r ≡ (digit0 + r * 10 / unit) ∷ decimals (k - 1) (r * 10 % unit)
 unfolding decimals
 one-more zero r h n = absurd (omega arith)
 one-more (suc k) r h n =

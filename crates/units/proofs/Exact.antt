@@ -16,7 +16,8 @@ use Rattle.digits.proofs.Cases.{either, same-or}
 use Rattle.units.specs.Units.{unit, decimalsMax, decimals, fraction, showSize, showUnits}
 use Rattle.units.specs.Denotes.{signOf, pointed, Denotes}
 
--- the digits ds, behind a point and after the whole number v, spell v units and r marks: with L digits the number m of all of them is that times 10 to the power L
+-- the digits ds, behind a point and after the whole number v, spell v units and r marks: with L digits, the number m of
+-- all of them is that times 10 to the power L
 pub record Spell (v r : ℕ) (ds : List ℕ) : Type 0 where
   pub m : ℕ
   pub digits : digitsFrom v ds ≡ Magnitude.Is m
@@ -27,7 +28,8 @@ unfolding digitsFrom
 none v r e = record { m = v; digits = refl; exact = omega arith }
 
 -- one digit more
-one : (v r : ℕ) (ds : List ℕ) → r < unit → Spell (v * 10 + r * 10 / unit) (r * 10 % unit) ds → Spell v r ((digit0 + r * 10 / unit) ∷ ds)
+one : (v r : ℕ) (ds : List ℕ) → r < unit
+    → Spell (v * 10 + r * 10 / unit) (r * 10 % unit) ds → Spell v r ((digit0 + r * 10 / unit) ∷ ds)
 unfolding digitsFrom
 one v r ds h s =
     let d : ℕ = r * 10 / unit in
@@ -48,7 +50,8 @@ enough (suc k) v r q h e =
     let d : ℕ = r * 10 / unit in
     let left : ℕ = r * 10 % unit in
     let p : ℕ = 10 ^ k in
-    let whole : (d * unit + left) * p ≡ q * unit = ap (λ (x : ℕ). x * p) (div-add-mod' (r * 10) unit) ∙ rw (mul-assoc r 10 p, mul-comm 10 p, ← pow-suc 10 k) e in
+    let ten : r * 10 * p ≡ q * unit = rw (mul-assoc r 10 p, mul-comm 10 p, ← pow-suc 10 k) e in
+    let whole : (d * unit + left) * p ≡ q * unit = ap (λ (x : ℕ). x * p) (div-add-mod' (r * 10) unit) ∙ ten in
     let parts : d * unit * p + left * p ≡ q * unit = sym (add-mul (d * unit) left p) ∙ whole in
     let units : d * unit * p ≡ d * p * unit = rw (mul-assoc d unit p, mul-comm unit p, mul-assoc d p unit) in
     let rest : left * p ≡ (q - d * p) * unit = omega arith in
@@ -80,7 +83,8 @@ fraction-is r =
     (λ z. rw (eq-eqb r 0 z))
     (λ n. rw (ne-eqb r 0 n))
 
-looks : (v : ℤ) → showUnits v ≡ signOf v ++ showMagnitude digitsMax (natAbs v / unit) ++ pointed (decimals decimalsMax (natAbs v % unit))
+looks : (v : ℤ)
+    → showUnits v ≡ signOf v ++ showMagnitude digitsMax (natAbs v / unit) ++ pointed (decimals decimalsMax (natAbs v % unit))
 unfolding showUnits showSize signOf
 looks (pos m) = rw (fraction-is (m % unit))
 looks (negsuc m) = rw (fraction-is (suc m % unit))

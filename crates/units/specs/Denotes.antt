@@ -1,5 +1,6 @@
--- What the bytes of a number in units say: a minus where it is below 0, whole digits, and where digits follow a point before them. With L digits
--- behind the point, the number m that all digits spell is 10 to the power L times the units: here the marks, multiplied out in whole numbers.
+-- What the bytes of a number in units say: a minus where it is below 0, whole digits, and where digits follow a point
+-- before them. With L digits behind the point, the number m that all digits spell is the units times 10 to the power L:
+-- here with the marks v, of which 65,536 are a unit, multiplied out in whole numbers.
 use Prim.Native.Nat.{ℕ, _*_, _^_}
 use mathlib.Core.Path.{_≡_}
 use mathlib.Core.List.{List, [], _∷_, _++_}

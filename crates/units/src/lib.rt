@@ -19,7 +19,7 @@ use sizes::TEXT;
 use writing::Written;
 use writing::put_bytes;
 
-// The result's text, and behind it the lines. They are measured on a buffer of one byte, from the place on that they have.
+// The result's text, and behind it the lines, which are measured on a buffer of one byte.
 fn put_both(r: Result, text: &[u8], out: &mut [u8]) -> Written
     requires { ⌜ TextFits r (now text) ⌝ }
     ensures { λ a. ⌜ Leaves Status.Done (unitsOf r) (now (out .entry)) (now (out .exit)) a ⌝ }

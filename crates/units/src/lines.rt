@@ -1,5 +1,5 @@
 // A line for each unknown, with its ends in units.
-ghost use Prim.Native.Nat.{_+_, _<_, _≤_, _^_};
+ghost use Prim.Native.Nat.{_+_, _*_, _<_, _≤_, _^_};
 ghost use lib.IntN.{natAbs};
 ghost use Rattle.digits.specs.Number.{digitsMax};
 ghost use Rattle.writing.specs.Wrote.{placeMax, Wrote};
@@ -20,7 +20,7 @@ fn put_ends(buf: &mut [u8], at: usize, lo: i64, hi: i64) -> usize
 }
 
 fn put_unknown(buf: &mut [u8], at: usize, k: u64, lo: i64, hi: i64) -> usize
-    requires { ⌜ (at + unknownMax + unknownMax ≤ placeMax) × (natAbs lo < 10 ^ digitsMax) × (natAbs hi < 10 ^ digitsMax) ⌝ }
+    requires { ⌜ (at + 2 * unknownMax ≤ placeMax) × (natAbs lo < 10 ^ digitsMax) × (natAbs hi < 10 ^ digitsMax) ⌝ }
     ensures { λ p. ⌜ Wrote (now (buf .entry)) (now (buf .exit)) at p (unknownLine k lo hi) ⌝ }
 {
     let a = put_bytes(buf, at, b"unknown ");

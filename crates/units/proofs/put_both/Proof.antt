@@ -21,8 +21,9 @@ returns : tie.Need-returns
 returns c =
     let start = c .before .before .before .before .before .before .before .before in
     let r = start .args .r in
+    let room = c .before .before .put-unknowns .ensures .next in
     no-room (unitsOf r) (start .args .out .now)
-    (omega (arith, c .if1 .taken, c .before .before .put-unknowns .ensures .next, both-length r, ap length (start .pre .text)))
+    (omega (arith, c .if1 .taken, room, both-length r, ap length (start .pre .text)))
 
 put-bytes-requires : tie.Need-put-bytes-requires
 put-bytes-requires c κs = search needs
@@ -40,7 +41,8 @@ returns-2 c =
     let measure = test .before .before in
     let start = measure .before .before .before .before .before .before in
     let r = start .args .r in
-    let wrote = both-written r (start .pre .text) (bytes .put-bytes .ensures) (c .before .before .put-unknowns2 .ensures) in
+    let lines = c .before .before .put-unknowns2 .ensures in
+    let wrote = both-written r (start .pre .text) (bytes .put-bytes .ensures) lines in
     let fits : length (unitsOf r) ≤ length (start .args .out .now) =
     omega (arith, test .if1 .left, measure .put-unknowns .ensures .next, both-length r, ap length (start .pre .text)) in
     rw (wrote .next ∙ zero-add (length (unitsOf r))) (all-written (unitsOf r) (start .args .out .now) fits wrote)

@@ -21,14 +21,16 @@ write-checked-requires c κs = sym (c .before .before .before .check-result .ens
 returns : tie.Need-returns
 returns c =
     let args = c .before .before .before .before .before .args in
-    rw (sym (c .before .before .before .check-result .ensures) ∙ c .before .status .given .1) (values-bad (unitsOf (args .r)) (args .out .now) _ _)
+    rw (sym (c .before .before .before .check-result .ensures) ∙ c .before .status .given .1)
+    (values-bad (unitsOf (args .r)) (args .out .now) _ _)
 
 same-length : tie.Need-same-length
 same-length c = search needs
 
 returns-2 : tie.Need-returns-2
 returns-2 c =
-    rw (sym (c .before .before .before .before .before .before .check-result .ensures) ∙ c .before .before .before .before .enum-told .given .1)
+    let told = c .before .before .before .before in
+    rw (sym (told .before .before .check-result .ensures) ∙ told .enum-told .given .1)
     (c .before .before .write-checked .ensures)
 
 pub write-units-spec : {M : Type 1} → statement M

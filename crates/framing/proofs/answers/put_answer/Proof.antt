@@ -18,7 +18,8 @@ put-count-line-requires c κs = search needs
 put-bytes-requires : tie.Need-put-bytes-requires
 put-bytes-requires c κs =
     let start = c .before .before .before .before .before .before .before .before in
-    omega (arith, c .before .before .before .put-count-line .ensures .next, count-line-short [] (length (start .args .answer .now)), start .pre)
+    let number = c .before .before .before .put-count-line .ensures .next in
+    omega (arith, number, count-line-short [] (length (start .args .answer .now)), start .pre)
 
 same-length : tie.Need-same-length
 same-length c = search needs

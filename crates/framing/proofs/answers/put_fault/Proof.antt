@@ -22,7 +22,8 @@ slice-aggregate-put-count-line-2 c = search needs
 put-count-line-requires-2 : tie.Need-put-count-line-requires-2
 put-count-line-requires-2 c κs =
     let line = c .before .before .before .before in
-    omega (arith, line .put-count-line .ensures .next, count-line-short faultKey (line .before .before .before .fault-number .result))
+    let number = line .before .before .before .fault-number .result in
+    omega (arith, line .put-count-line .ensures .next, count-line-short faultKey number)
 
 same-length : tie.Need-same-length
 same-length c = search needs

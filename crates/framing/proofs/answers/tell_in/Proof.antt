@@ -25,7 +25,8 @@ same-length c = search needs
 returns-2 : tie.Need-returns-2
 returns-2 c =
     let match = c .before .before .before .before .before in
-    told-fault _ _ (match .before .before .before .pre) _ _ (match .status .given .1) (c .before .before .put-fault .ensures)
+    let start = match .before .before .before in
+    told-fault _ _ (start .pre) _ _ (match .status .given .1) (c .before .before .put-fault .ensures)
 
 returns-3 : tie.Need-returns-3
 returns-3 c =

@@ -18,7 +18,8 @@ nothing-requires c κs = search needs
 returns : tie.Need-returns
 unfolding lookOf lookAt
 returns c = record {
-  same = rw (end-is _ _ (c .before .before .piece-end .ensures), le-leb _ _ (c .before .if1 .taken)) (c .nothing .ensures);
+  same = rw (end-is _ _ (c .before .before .piece-end .ensures), le-leb _ _ (c .before .if1 .taken))
+      (c .nothing .ensures);
   low = rw (c .nothing .ensures) (omega arith);
   high = rw (c .nothing .ensures) (omega arith);
 }
@@ -56,7 +57,11 @@ unfolding lookOf lookAt
 returns-3 c =
     let tests = c .before .before .before in
     record {
-      same = rw (end-is _ _ (tests .before .before .piece-end .ensures), lt-leb _ _ (tests .before .if1 .left), lt-leb _ _ (tests .if2 .left))
+      same = rw (
+        end-is _ _ (tests .before .before .piece-end .ensures),
+        lt-leb _ _ (tests .before .if1 .left),
+        lt-leb _ _ (tests .if2 .left),
+      )
           (rw (← c .before .request-of .ensures) (c .text-at .ensures .same));
       low = c .text-at .ensures .low;
       high = c .text-at .ensures .high;

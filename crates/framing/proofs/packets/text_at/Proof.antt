@@ -48,7 +48,8 @@ returns-3 : tie.Need-returns-3
 unfolding textAt
 returns-3 c = record {
   same = rw (c .before .before .before .before .request .given .1)
-      (simp (le-ltb _ _ (rw (c .before .before .kept .ensures) at (c .before .if1 .left))) (cc (c .before .before .kept .ensures, c .passed .ensures)));
+      (simp (le-ltb _ _ (rw (c .before .before .kept .ensures) at (c .before .if1 .left)))
+      (cc (c .before .before .kept .ensures, c .passed .ensures)));
   low = omega arith;
   high = omega arith;
 }

@@ -25,7 +25,10 @@ returns-2 : tie.Need-returns-2
 unfolding operationOf
 returns-2 c =
     let first = c .before .before .before in
-    rw (sym (first .before .same-bytes .ensures) ∙ first .if1 .left, sym (c .before .same-bytes2 .ensures) ∙ c .if2 .taken)
+    rw (
+      sym (first .before .same-bytes .ensures) ∙ first .if1 .left,
+      sym (c .before .same-bytes2 .ensures) ∙ c .if2 .taken,
+    )
 
 slice-aggregate-same-bytes-3 : tie.Need-slice-aggregate-same-bytes-3
 slice-aggregate-same-bytes-3 c = search needs

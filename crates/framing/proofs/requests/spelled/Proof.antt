@@ -21,7 +21,9 @@ all-digits-requires c κs = search needs
 
 returns-3 : tie.Need-returns-3
 unfolding isSpelled
-returns-3 c = rw (ne-eqb _ _ (c .before .before .before .if1 .left)) (simp (ne-eqb _ _ (c .before .if2 .left)) (c .all-digits .ensures))
+returns-3 c =
+    rw (ne-eqb _ _ (c .before .before .before .if1 .left))
+    (simp (ne-eqb _ _ (c .before .if2 .left)) (c .all-digits .ensures))
 
 pub spelled-spec : {M : Type 1} → statement M
 spelled-spec =

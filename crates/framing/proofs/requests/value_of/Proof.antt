@@ -19,7 +19,8 @@ record Inv (s : List ℕ) (v i : ℕ) : Type 0 where
   held : v ≡ capped w
   same : valueFrom w (drop i s) ≡ valueFrom 0 s
 
-one-more : (s : List ℕ) (w i : ℕ) → i < length s → valueFrom w (drop i s) ≡ valueFrom (w * 10 + (getD s i 0 - digit0)) (drop (i + 1) s)
+one-more : (s : List ℕ) (w i : ℕ) → i < length s
+    → valueFrom w (drop i s) ≡ valueFrom (w * 10 + (getD s i 0 - digit0)) (drop (i + 1) s)
 unfolding valueFrom
 one-more s w i h = rw (drop-cons s i 0 h, add-one i)
 

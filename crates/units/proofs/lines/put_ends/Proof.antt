@@ -23,10 +23,11 @@ put-bytes-requires c κs =
 
 put-units-requires-2 : tie.Need-put-units-requires-2
 put-units-requires-2 c κs =
-    let low = c .before .before .before .before .before .before .before .before in
+    let word = c .before .before .before in
+    let low = word .before .before .before .before .before in
     let start = low .before .before .before in
     let number = rw (toZ-ofZ (start .fits .lo)) at (low .put-units .ensures) in (
-      omega (arith, c .before .before .before .put-bytes .ensures .next, number .next, units-short (start .args .lo), start .pre .0),
+      omega (arith, word .put-bytes .ensures .next, number .next, units-short (start .args .lo), start .pre .0),
       rw (toZ-ofZ (start .fits .hi)) (start .pre .2),
     )
 

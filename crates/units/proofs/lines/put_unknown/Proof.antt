@@ -28,7 +28,13 @@ put-bytes-requires-2 c κs =
     let count = c .before .before .before .before in
     let word = count .before .before .before .before in
     let start = word .before .before .before .before in
-    omega (arith, count .put-magnitude .ensures .next, show-short digitsMax (start .args .k), word .put-bytes .ensures .next, start .pre .0)
+    omega (
+      arith,
+      count .put-magnitude .ensures .next,
+      show-short digitsMax (start .args .k),
+      word .put-bytes .ensures .next,
+      start .pre .0,
+    )
 
 put-ends-requires : tie.Need-put-ends-requires
 put-ends-requires c κs =

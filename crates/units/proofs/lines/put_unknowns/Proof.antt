@@ -25,7 +25,8 @@ no-lines : (lo hi : List ℤ) → unknownLines 0 lo hi ≡ []
 unfolding unknownLines
 no-lines lo hi = refl
 
-line-more : (i : ℕ) (lo hi : List ℤ) → unknownLines (i + 1) lo hi ≡ unknownLines i lo hi ++ unknownLine (i + 1) (getD lo i (pos 0)) (getD hi i (pos 0))
+line-more : (i : ℕ) (lo hi : List ℤ)
+    → unknownLines (i + 1) lo hi ≡ unknownLines i lo hi ++ unknownLine (i + 1) (getD lo i (pos 0)) (getD hi i (pos 0))
 unfolding unknownLines
 line-more i lo hi = rw (add-one i)
 
@@ -57,10 +58,12 @@ put-unknown-requires : tie.Need-put-unknown-requires Inv-loop μ-loop
 put-unknown-requires c κs =
     let l = c .before .before .before .before .loop in
     let start = c .before .before .before .before .before .before in
+    let low = getD (start .args .t3) (l .i) (pos 0) in
+    let high = getD (start .args .t4) (l .i) (pos 0) in
     let test = c .before .before .before .loop-test .taken in (
       omega (arith, l .inv .room, test, start .pre .few, start .pre .room),
-      rw (toZ-ofZ {w = w64} {z = getD (start .args .t3) (l .i) (pos 0)} (search needs)) (small-live _ _ _ (start .pre .low) test),
-      rw (toZ-ofZ {w = w64} {z = getD (start .args .t4) (l .i) (pos 0)} (search needs)) (small-live _ _ _ (start .pre .high) test),
+      rw (toZ-ofZ {w = w64} {z = low} (search needs)) (small-live _ _ _ (start .pre .low) test),
+      rw (toZ-ofZ {w = w64} {z = high} (search needs)) (small-live _ _ _ (start .pre .high) test),
     )
 
 add-i : tie.Need-add-i Inv-loop μ-loop
@@ -75,7 +78,9 @@ loop-again c =
     let start = c .before .before .before .before .before .before .before .before .before in
     let low = getD (start .args .t3) (l .i) (pos 0) in
     let high = getD (start .args .t4) (l .i) (pos 0) in
-    let written = rw (toZ-ofZ {w = w64} {z = low} (search needs), toZ-ofZ {w = w64} {z = high} (search needs)) at (c .before .before .put-unknown .ensures) in
+    let e = toZ-ofZ {w = w64} {z = low} (search needs) in
+    let f = toZ-ofZ {w = w64} {z = high} (search needs) in
+    let written = rw (e, f) at (c .before .before .put-unknown .ensures) in
     record {
       few = omega arith;
       room = omega (arith, l .inv .room, written .next, unknown-short (l .i + 1) low high);

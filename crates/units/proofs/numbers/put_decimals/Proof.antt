@@ -21,6 +21,13 @@ record Inv (old new : List ℕ) (at r p left k : ℕ) : Type 0 where
   wrote : Wrote old new at p done
   whole : done ++ decimals (decimalsMax - k) left ≡ decimals decimalsMax r
 
+-- where nothing is to come, all is written
+all-written : {old new : List ℕ} {at r p left k : ℕ} → decimals (decimalsMax - k) left ≡ []
+    → Inv old new at r p left k → Wrote old new at p (decimals decimalsMax r)
+all-written n v =
+    let all = ap (λ (x : List ℕ). v .done ++ x) n ∙ append-nil (v .done) in
+    rw (sym all ∙ v .whole) at (v .wrote)
+
 abbrev Inv-loop : tie.InvT-loop
 Inv-loop buf₀ at r p₀ left₀ k₀ buf p left k = Inv buf₀ buf at r p left k
 
@@ -43,8 +50,7 @@ same-length c = wrote-length (c .before .before .loop .inv .wrote)
 returns : tie.Need-returns Inv-loop μ-loop
 returns c =
     let l = c .before .before .loop in
-    let all = ap (λ (x : List ℕ). l .inv .done ++ x) (none-left (decimalsMax - l .k) (l .left) (c .if1 .taken)) ∙ append-nil (l .inv .done) in
-    rw (sym all ∙ l .inv .whole) at (l .inv .wrote)
+    all-written (none-left (decimalsMax - l .k) (l .left) (c .if1 .taken)) (l .inv)
 
 mul-tens : tie.Need-mul-tens Inv-loop μ-loop
 mul-tens c = omega (arith, c .before .before .loop .inv .small)
@@ -56,7 +62,9 @@ cast-put-byte : tie.Need-cast-put-byte Inv-loop μ-loop
 cast-put-byte c = omega (arith, c .before .before .before .loop .inv .small)
 
 put-byte-requires : tie.Need-put-byte-requires Inv-loop μ-loop
-put-byte-requires c κs = omega (arith, c .before .before .before .loop .inv .room, c .before .before .before .before .before .pre .0)
+put-byte-requires c κs =
+    let start = c .before .before .before .before .before in
+    omega (arith, c .before .before .before .loop .inv .room, start .pre .0)
 
 add-k : tie.Need-add-k Inv-loop μ-loop
 add-k c = omega arith
@@ -78,7 +86,9 @@ loop-again c =
       room = omega (arith, byte .next, l .inv .room);
       done = l .inv .done ++ (b ∷ []);
       wrote = wrote-append (l .inv .wrote) byte;
-      whole = append-assoc (l .inv .done) (b ∷ []) _ ∙ ap (λ (x : List ℕ). l .inv .done ++ x) (sym (rw e at next)) ∙ l .inv .whole;
+      whole = append-assoc (l .inv .done) (b ∷ []) _
+          ∙ ap (λ (x : List ℕ). l .inv .done ++ x) (sym (rw e at next))
+          ∙ l .inv .whole;
     }
 
 same-length-2 : tie.Need-same-length-2 Inv-loop μ-loop
@@ -88,8 +98,7 @@ returns-2 : tie.Need-returns-2 Inv-loop μ-loop
 returns-2 c =
     let l = c .before .loop in
     let z : decimalsMax - l .k ≡ 0 = omega (arith, c .loop-test .left) in
-    let all = ap (λ (x : List ℕ). l .inv .done ++ x) (no-more (decimalsMax - l .k) (l .left) z) ∙ append-nil (l .inv .done) in
-    rw (sym all ∙ l .inv .whole) at (l .inv .wrote)
+    all-written (no-more (decimalsMax - l .k) (l .left) z) (l .inv)
 
 pub put-decimals-spec : {M : Type 1} → statement M
 put-decimals-spec =

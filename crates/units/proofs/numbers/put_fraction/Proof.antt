@@ -23,7 +23,8 @@ returns-2 : tie.Need-returns-2
 unfolding fraction
 returns-2 c =
     let dot = c .before .before .before .before .before .before in
-    rw (ne-eqb _ _ (dot .before .before .if1 .left)) (wrote-append (dot .put-byte .ensures) (c .before .before .put-decimals .ensures))
+    rw (ne-eqb _ _ (dot .before .before .if1 .left))
+    (wrote-append (dot .put-byte .ensures) (c .before .before .put-decimals .ensures))
 
 pub put-fraction-spec : {M : Type 1} → statement M
 put-fraction-spec =

@@ -16,14 +16,17 @@ put-fraction-requires : tie.Need-put-fraction-requires
 put-fraction-requires c κs =
     let whole = c .before .before .before in
     let start = whole .before .before .before in
-    (omega (arith, whole .put-magnitude .ensures .next, show-short digitsMax (start .args .m / unit), start .pre), omega arith)
+    let short = show-short digitsMax (start .args .m / unit) in
+    (omega (arith, whole .put-magnitude .ensures .next, short, start .pre), omega arith)
 
 same-length : tie.Need-same-length
 same-length c = search needs
 
 returns : tie.Need-returns
 unfolding showSize
-returns c = wrote-append (c .before .before .before .before .before .before .put-magnitude .ensures) (c .before .before .put-fraction .ensures)
+returns c =
+    let whole = c .before .before .before .before .before .before in
+    wrote-append (whole .put-magnitude .ensures) (c .before .before .put-fraction .ensures)
 
 pub put-size-spec : {M : Type 1} → statement M
 put-size-spec =

@@ -56,7 +56,8 @@ returns-2 c =
     let test = c .before .before .before .before in
     let start = test .before .before .before in
     let e = toZ-ofZ (start .fits .v) in
-    rw (non (start .args .v) (rw e at (test .if1 .left)), ← (test .before .abs .ensures ∙ ap natAbs e)) (c .before .before .put-size2 .ensures)
+    rw (non (start .args .v) (rw e at (test .if1 .left)), ← (test .before .abs .ensures ∙ ap natAbs e))
+    (c .before .before .put-size2 .ensures)
 
 pub put-units-spec : {M : Type 1} → statement M
 put-units-spec =
