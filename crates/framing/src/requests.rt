@@ -3,7 +3,7 @@ ghost use mathlib.Core.Path.{_≡_};
 ghost use Prim.Native.Nat.{_+_, _*_};
 ghost use Rattle.framing.specs.declared.requests.Named.{Named};
 ghost use Rattle.framing.specs.Requests.{operationOf, capped, valueFrom, isSpelled, lengthOf};
-ghost use Rattle.framing.specs.Requests.{asked, afterSpace, AfterSpace, requestOf};
+ghost use Rattle.framing.specs.Requests.{asked, AfterSpace, requestOf};
 use termtext::all_digits;
 use termtext::digit;
 use text::same_bytes;

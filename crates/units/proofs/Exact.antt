@@ -42,11 +42,9 @@ one v r ds h s =
       exact = s .exact ∙ rw (ten, mul-assoc, mul-comm 10, ← pow-suc 10 (length ds));
     }
 
--- k digits are enough where 10 to the power k takes the marks to whole units
-enough : (k v r q : ℕ) → r < unit → r * 10 ^ k ≡ q * unit → Spell v r (decimals k r)
-unfolding decimals
-enough zero v r q h e = none v r (omega arith)
-enough (suc k) v r q h e =
+-- what is left after a digit comes to whole units too
+rest-whole : (k r q : ℕ) → r * 10 ^ suc k ≡ q * unit → r * 10 % unit * 10 ^ k ≡ (q - r * 10 / unit * 10 ^ k) * unit
+rest-whole k r q e =
     let d : ℕ = r * 10 / unit in
     let left : ℕ = r * 10 % unit in
     let p : ℕ = 10 ^ k in
@@ -54,10 +52,55 @@ enough (suc k) v r q h e =
     let whole : (d * unit + left) * p ≡ q * unit = ap (λ (x : ℕ). x * p) (div-add-mod' (r * 10) unit) ∙ ten in
     let parts : d * unit * p + left * p ≡ q * unit = sym (add-mul (d * unit) left p) ∙ whole in
     let units : d * unit * p ≡ d * p * unit = rw (mul-assoc d unit p, mul-comm unit p, mul-assoc d p unit) in
-    let rest : left * p ≡ (q - d * p) * unit = omega arith in
+    omega arith
+
+-- k digits are enough where 10 to the power k takes the marks to whole units
+enough : (k v r q : ℕ) → r < unit → r * 10 ^ k ≡ q * unit → Spell v r (decimals k r)
+unfolding decimals
+enough zero v r q h e = none v r (omega arith)
+enough (suc k) v r q h e =
+    let left : ℕ = r * 10 % unit in
     same-or r 0
     (λ z. rw (eq-eqb r 0 z) (none v r z))
-    (λ n. rw (ne-eqb r 0 n) (one v r (decimals k left) h (enough k (v * 10 + d) left (q - d * p) (omega arith) rest)))
+    (λ n. rw (ne-eqb r 0 n) (one v r (decimals k left) h (enough k _ left _ (omega arith) (rest-whole k r q e))))
+
+no-cons : (x : ℕ) (xs : List ℕ) → [] ≡ x ∷ xs → ⊥
+no-cons x xs e = let z : _≡_ {A = ℕ} 0 1 = cc in omega arith
+
+no-last : (ds : List ℕ) (x : ℕ) → [] ≡ ds ++ (x ∷ []) → ⊥
+no-last [] x e = no-cons x [] e
+no-last (d ∷ ds) x e = no-cons d (ds ++ (x ∷ [])) e
+
+parts-are : (a b : ℕ) (xs ys : List ℕ) → a ∷ xs ≡ b ∷ ys → (a ≡ b) × (xs ≡ ys)
+parts-are a b xs ys e = (cc, cc)
+
+-- where no digit comes, nothing is left
+nothing-left : (k r q : ℕ) → r < unit → r * 10 ^ k ≡ q * unit → decimals k r ≡ [] → r ≡ 0
+unfolding decimals
+nothing-left zero r q h e n = omega arith
+nothing-left (suc k) r q h e n =
+    same-or r 0
+    (λ z. z)
+    (λ p. absurd (no-cons _ _ (sym (rw (ne-eqb r 0 p) at n))))
+
+-- the last digit is no 0
+shortest : (k r q : ℕ) (ds : List ℕ) → r < unit → r * 10 ^ k ≡ q * unit → decimals k r ≡ ds ++ (digit0 ∷ []) → ⊥
+unfolding decimals
+shortest zero r q ds h e n = no-last ds digit0 n
+shortest (suc k) r q ds h e n =
+    same-or r 0
+    (λ z. no-last ds digit0 (rw (eq-eqb r 0 z) at n))
+    (λ p. step p ds (rw (ne-eqb r 0 p) at n) (shortest k (r * 10 % unit) _))
+  where
+    step : (r ≡ 0 → ⊥) → (ds : List ℕ) → (digit0 + r * 10 / unit) ∷ decimals k (r * 10 % unit) ≡ ds ++ (digit0 ∷ [])
+        → ((ds : List ℕ) → r * 10 % unit < unit → r * 10 % unit * 10 ^ k ≡ (q - r * 10 / unit * 10 ^ k) * unit
+        → decimals k (r * 10 % unit) ≡ ds ++ (digit0 ∷ []) → ⊥)
+        → ⊥
+    step p [] m again =
+        let t = parts-are _ _ _ _ m in
+        let z = nothing-left k (r * 10 % unit) _ (omega arith) (rest-whole k r q e) (t .1) in
+        p (omega (arith, t .0, z))
+    step p (b ∷ ds) m again = again ds (omega arith) (rest-whole k r q e) (parts-are _ _ _ _ m .1)
 
 bad-is : {A : Type 0} (m : ℕ) → Magnitude.Bad ≡ Magnitude.Is m → A
 bad-is m e = absurd (let z : _≡_ {A = ℕ} 0 1 = cc in omega arith)
@@ -90,14 +133,14 @@ looks (pos m) = rw (fraction-is (m % unit))
 looks (negsuc m) = rw (fraction-is (suc m % unit))
 
 -- 10 to the power 16 is 65,536 times 152,587,890,625
-spell : (m : ℕ) → Spell (m / unit) (m % unit) (decimals decimalsMax (m % unit))
-spell m = enough decimalsMax (m / unit) (m % unit) (m % unit * 152587890625) (omega arith) (omega arith)
+sixteen : (r : ℕ) → r * 10 ^ decimalsMax ≡ r * 152587890625 * unit
+sixteen r = omega arith
 
 -- every number of at most nine digits of marks is written exactly
 pub units-exact : (v : ℤ) → natAbs v < 10 ^ digitsMax → Denotes (showUnits v) v
 units-exact v h =
     let n : ℕ = natAbs v in
-    let s = spell n in
+    let s = enough decimalsMax (n / unit) (n % unit) _ (omega arith) (sixteen (n % unit)) in
     record {
       whole = showMagnitude digitsMax (n / unit);
       part = decimals decimalsMax (n % unit);
@@ -105,4 +148,5 @@ units-exact v h =
       looks = looks v;
       digits = spelled-on 0 (n / unit) _ _ (digits-back 8 (n / unit) (omega arith)) ∙ s .digits;
       exact = s .exact ∙ rw (div-add-mod' n unit);
+      shortest = λ ds e. shortest decimalsMax (n % unit) _ ds (omega arith) (sixteen (n % unit)) e;
     }

@@ -6,14 +6,13 @@ use lib.ListN.{length, take, getD, length-append, length-take, List·getD-eq-def
 use lib.Seq.{getD-take}
 use lib.IntN.{ℤ, pos, negsuc, natAbs}
 use Rattle.digits.specs.Number.{digitsMax}
-use Rattle.digits.specs.Show.{showMagnitude}
 use Rattle.digits.proofs.Cases.{either}
 use Rattle.digits.proofs.Show.{show-short}
 use Rattle.text.specs.Lists.{Small}
 use Rattle.writing.specs.Wrote.{line}
 use Rattle.writing.proofs.Lists.{small-at}
 use Rattle.units.specs.Units.{decimalsMax, showUnits}
-use Rattle.units.specs.Show.{unknownWord, colon, toWord, unknownMax, showEnds, unknownLine}
+use Rattle.units.specs.Show.{toWord, unknownMax, showEnds, unknownLine}
 use Rattle.units.proofs.Decimals.{size-short}
 
 pub units-short : (v : ℤ) → length (showUnits v) ≤ 2 + digitsMax + decimalsMax
