@@ -5,6 +5,7 @@ import signal
 import subprocess
 import tempfile
 import unittest
+from decimal import Decimal
 from pathlib import Path
 
 from calls import EXAMPLES, JOB, PROGRAM, RESULT, WAIT, call, call_by_shell, request, packet, start
@@ -37,6 +38,13 @@ class Commands(unittest.TestCase):
             ended = call("solve", str(job))
             self.assertEqual((ended.status, ended.out), (1 if answer.startswith(b"fault=") else 0, answer))
 
+    def test_units(self):
+        self.assertEqual(call("show", JOB_FILE).out, RESULT + b"unknown 1: 1.2499847412109375 to 1.583343505859375\n")
+        for job in sorted(EXAMPLES.glob("*.txt")):
+            answer = job.with_suffix(".out").read_text()
+            shown = answer if answer.startswith("fault=") else answer + in_units(answer)
+            self.assertEqual(call("show", str(job)).out.decode(), shown)
+
     def test_fault_of_a_file(self):
         ended = call("solve", RESULT_FILE)
         self.assertEqual(ended.status, 1)
@@ -49,7 +57,7 @@ class Commands(unittest.TestCase):
     def test_help(self):
         page = call("help")
         self.assertEqual((page.status, page.err), (0, ""))
-        for command in (b"solve", b"job", b"result", b"batch", b"help", b"version"):
+        for command in (b"solve", b"show", b"job", b"result", b"batch", b"help", b"version"):
             self.assertIn(b"floodrafter " + command, page.out)
         self.assertIn(b"Exit status: 0 answered; 1 a fault; 2 not run", page.out)
         for words in (("--help",), ("-h",), ("help", "solve"), ("help", "help")):
@@ -110,6 +118,13 @@ class Script(unittest.TestCase):
         for closed in ("3>&-", "3</dev/null 4</dev/null", "2>&-", "3>&- 4>&- 2>&-"):
             self.assertEqual(call_by_shell(closed, "solve", JOB_FILE), (0, RESULT, ""))
         self.assertEqual(call_by_shell("<&-", "solve", JOB_FILE), (0, RESULT, ""))
+
+
+def in_units(result):
+    """A line for each unknown of a result text, in decimals that are exact."""
+    ends = [line.partition("=")[2].split(",") for line in result.splitlines()[3:]]
+    units = [[format(Decimal(end) / 65_536, "f") for end in each] for each in ends]
+    return "".join(f"unknown {number}: {low} to {high}\n" for number, (low, high) in enumerate(zip(*units), 1))
 
 
 def child_of(pid):

@@ -69,7 +69,7 @@ class Faults(unittest.TestCase):
                          (1, b"fault=%d\nline=%d\n" % (fault, number), f"{place}: fault {fault}: {sentence}\n"))
 
     def test_jobs(self):
-        for command in ("solve", "job"):
+        for command in ("solve", "show", "job"):
             for number, line, fault, sentence in JOB_FAULTS:
                 with self.subTest(command=command, line=line):
                     self.refuses(command, changed(JOB, number, line), fault, number, sentence)

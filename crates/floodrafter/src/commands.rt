@@ -1,6 +1,7 @@
 // The commands, and what is said of a call that names none of them.
 use crate::help;
 use crate::outcomes::Outcome;
+use crate::people::How;
 use crate::streams::say;
 use framing::Op;
 use libc::STDERR_FILENO;
@@ -8,7 +9,7 @@ use text::same_bytes;
 
 // What reads a FILE.
 pub enum Work {
-    Reply(Op),
+    One(How),
     Batch,
 }
 
@@ -22,13 +23,16 @@ pub enum Command {
 // The one table of the commands.
 pub fn command_of(word: &[u8]) -> Command {
     if same_bytes(word, b"solve") {
-        return Command::Read(Work::Reply(Op::Solve));
+        return Command::Read(Work::One(How::Reply(Op::Solve)));
+    }
+    if same_bytes(word, b"show") {
+        return Command::Read(Work::One(How::Show));
     }
     if same_bytes(word, b"job") {
-        return Command::Read(Work::Reply(Op::Job));
+        return Command::Read(Work::One(How::Reply(Op::Job)));
     }
     if same_bytes(word, b"result") {
-        return Command::Read(Work::Reply(Op::Result));
+        return Command::Read(Work::One(How::Reply(Op::Result)));
     }
     if same_bytes(word, b"batch") {
         return Command::Read(Work::Batch);

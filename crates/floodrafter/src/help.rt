@@ -9,6 +9,7 @@ pub fn commands(fd: i32) -> bool {
     write_whole(
         fd,
         b"floodrafter solve [FILE]    the result of a job text, or its fault and line\n\
+        floodrafter show [FILE]     the same, and each unknown's range in units\n\
         floodrafter job [FILE]      reads a job text and writes it again\n\
         floodrafter result [FILE]   reads a result text and writes it again\n\
         floodrafter batch [FILE]    many requests in one run: floodrafter help batch tells how\n\

@@ -42,7 +42,7 @@ fn told(outcome: Outcome, name: &[u8]) -> Outcome {
 
 fn answer(work: Work, fd: i32, name: &[u8]) -> Outcome {
     let outcome = match work {
-        Work::Reply(op) => people::one(op, fd, name),
+        Work::One(how) => people::one(how, fd, name),
         Work::Batch => batch::all(fd),
     };
     told(outcome, name)

@@ -11,6 +11,28 @@ use framing::reply;
 use framing::tell;
 use jobs::Status;
 use sizes::TEXT;
+use writing::Written;
+
+// What a text is answered by.
+pub enum How {
+    Reply(Op),
+    Show,
+}
+
+fn answer(how: How, text: &[u8], out: &mut [u8]) -> Written {
+    match how {
+        How::Reply(op) => reply(op, text, out),
+        How::Show => units::show(text, out),
+    }
+}
+
+// A job is shown as it is solved.
+fn op_of(how: How) -> Op {
+    match how {
+        How::Reply(op) => op,
+        How::Show => Op::Solve,
+    }
+}
 
 // On standard error, as `job.txt:8: fault 6: ..`.
 fn explain(op: Op, status: Status, name: &[u8], text: &[u8]) -> Outcome {
@@ -33,7 +55,7 @@ fn explain(op: Op, status: Status, name: &[u8], text: &[u8]) -> Outcome {
 }
 
 // Of a text that is too long, one byte more than may be is read.
-pub fn one(op: Op, fd: i32, name: &[u8]) -> Outcome {
+pub fn one(how: How, fd: i32, name: &[u8]) -> Outcome {
     let mut buf = [0u8; TEXT + 1];
     let came = fill(fd, &mut buf);
     if came.failed {
@@ -41,11 +63,11 @@ pub fn one(op: Op, fd: i32, name: &[u8]) -> Outcome {
     }
     let n = came.n;
     let mut out = [0u8; ROOM];
-    let a = reply(op, &buf[0..n], &mut out);
+    let a = answer(how, &buf[0..n], &mut out);
     let status = a.status;
     let k = tell(a, &mut out);
     if put(&out[0..k]) {
-        return explain(op, status, name, &buf[0..n]);
+        return explain(op_of(how), status, name, &buf[0..n]);
     }
     Outcome::Unwritten
 }
