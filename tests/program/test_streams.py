@@ -92,8 +92,8 @@ class Writing(unittest.TestCase):
 
     def refuses(self, redirection, why):
         """By every command that writes."""
-        for words in (("solve", JOB_FILE), ("show", JOB_FILE), ("job", JOB_FILE), ("result", JOB_FILE), ("help",), ("help", "batch"),
-                      ("version",), ("batch",)):
+        for words in (("solve", JOB_FILE), ("show", JOB_FILE), ("job", JOB_FILE), ("result", JOB_FILE), ("batch",),
+                      ("help",), ("help", "batch"), ("version",)):
             ended = call_by_shell(redirection, *words, given=request("solve", JOB))
             self.assertEqual(ended, (2, b"", f"floodrafter: standard output: {why}\n"))
 
