@@ -1,16 +1,17 @@
--- A number of marks in units, for people: "65,536 marks are 1.0", so that each has a finite decimal.
+-- A number of marks in units, for people: "one mark is 1/65,536", which has a finite decimal.
 use Prim.Native.Nat.{ℕ, zero, suc, _+_, _*_, _/_, _%_}
 use mathlib.Core.List.{List, [], _∷_, _++_}
 use mathlib.Core.Bool.{cond}
 use lib.Dec.{eqb}
 use lib.IntN.{ℤ, pos, negsuc}
+use Rattle.sizes.specs.Sizes.{mark}
 use Rattle.digits.specs.Bytes.{digit0, minusSign}
 use Rattle.digits.specs.Number.{digitsMax}
 use Rattle.digits.specs.Show.{showMagnitude}
 
 -- marks of a unit
 abbrev pub unit : ℕ
-unit = 65536
+unit = mark
 
 abbrev pub point : ℕ
 point = 46

@@ -4,11 +4,12 @@ ghost use lib.IntN.{natAbs};
 ghost use Rattle.digits.specs.Number.{digitsMax};
 ghost use Rattle.writing.specs.Wrote.{placeMax, Wrote};
 ghost use Rattle.units.specs.Units.{unit, decimalsMax, decimals, fraction, showSize, showUnits};
+use sizes::MARK;
 use writing::put_byte;
 use writing::put_magnitude;
 
 // Marks of a unit.
-const UNIT: u64 = 65536;
+const UNIT: u64 = MARK as u64;
 // Digits behind the point.
 const DECIMALS: usize = 16;
 
