@@ -1,5 +1,7 @@
 // What is told of the program itself.
+use crate::streams::write_number;
 use crate::streams::write_whole;
+use framing::HEADER;
 
 pub fn version(fd: i32) -> bool {
     write_whole(fd, b"floodrafter 1\n")
@@ -13,7 +15,8 @@ pub fn commands(fd: i32) -> bool {
         floodrafter job [FILE]      reads a job text and writes it again\n\
         floodrafter result [FILE]   reads a result text and writes it again\n\
         floodrafter batch [FILE]    many requests in one run: floodrafter help batch tells how\n\
-        floodrafter help [batch], floodrafter version\n\
+        floodrafter help [batch]    this page, or the packets of batch; --help and -h too\n\
+        floodrafter version         the version; --version too\n\
         Without FILE, and where it is -, standard input is read. A fault is two lines, fault=N and line=L,\n\
         and standard error says what was expected.\n\
         Exit status: 0 answered; 1 a fault; 2 not run: a wrong call, a file that cannot be read, an output\n\
@@ -21,15 +24,21 @@ pub fn commands(fd: i32) -> bool {
     )
 }
 
-pub fn packets(fd: i32) -> bool {
+fn requests(fd: i32) -> bool {
     write_whole(
         fd,
         b"floodrafter batch [FILE] answers many requests in one run, in their order.\n\
         A request is a line and a text:\n\
         \x20   OP LENGTH   solve, job or result, one space, how many bytes the text has, one line feed\n\
         \x20   TEXT        so many bytes, as floodrafter OP reads them\n\
-        LENGTH is in digits with no leading zero. A line has at most 4096 bytes, its line feed among them.\n\
-        An answer is a line and a text:\n\
+        LENGTH is in digits with no leading zero. Bytes of a line, its line feed among them, at most: ",
+    )
+}
+
+fn answers(fd: i32) -> bool {
+    write_whole(
+        fd,
+        b"\nAn answer is a line and a text:\n\
         \x20   LENGTH      how many bytes the answer has, one line feed\n\
         \x20   ANSWER      so many bytes, as floodrafter OP writes them\n\
         All answers to what has been read are written before more is read, so a request can wait for the\n\
@@ -38,4 +47,14 @@ pub fn packets(fd: i32) -> bool {
         error= says what was expected, and the run ends. Exit status: 0 where each request was answered, if\n\
         only by a fault; 2 where not.\n",
     )
+}
+
+pub fn packets(fd: i32) -> bool {
+    if !requests(fd) {
+        return false;
+    }
+    if !write_number(fd, HEADER as u64) {
+        return false;
+    }
+    answers(fd)
 }

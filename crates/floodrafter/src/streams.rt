@@ -156,8 +156,12 @@ pub fn say(words: &[u8]) {
     write_whole(STDERR_FILENO, words);
 }
 
-pub fn say_number(v: u64) {
+pub fn write_number(fd: i32, v: u64) -> bool {
     let mut digits = [0u8; 20];
     let n = io::decimal(v, &mut digits);
-    say(&digits[0..n]);
+    write_whole(fd, &digits[0..n])
+}
+
+pub fn say_number(v: u64) {
+    write_number(STDERR_FILENO, v);
 }
