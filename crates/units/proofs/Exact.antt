@@ -127,7 +127,8 @@ fraction-is r =
     (λ n. rw (ne-eqb r 0 n))
 
 looks : (v : ℤ)
-    → showUnits v ≡ signOf v ++ showMagnitude digitsMax (natAbs v / unit) ++ pointed (decimals decimalsMax (natAbs v % unit))
+    → showUnits v
+    ≡ signOf v ++ showMagnitude digitsMax (natAbs v / unit) ++ pointed (decimals decimalsMax (natAbs v % unit))
 unfolding showUnits showSize signOf
 looks (pos m) = rw (fraction-is (m % unit))
 looks (negsuc m) = rw (fraction-is (suc m % unit))
