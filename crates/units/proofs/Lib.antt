@@ -2,3 +2,4 @@ pub mod Decimals
 pub mod Exact
 pub mod Short
 pub mod Both
+pub mod Fits
