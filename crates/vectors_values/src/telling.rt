@@ -58,11 +58,19 @@ pub fn result_into(r: Result, out: &mut [u8]) {
     written(w, out);
 }
 
-pub fn result(name: &[u8], r: Result) {
+fn show(r: Result) {
     let mut out = [b'.'; ROOM];
+    result_into(r, &mut out);
+}
+
+fn line(name: &[u8]) {
     io::write_all(1, name);
     io::write_all(1, b"\n");
-    result_into(r, &mut out);
+}
+
+pub fn result(name: &[u8], r: Result) {
+    line(name);
+    show(r);
 }
 
 // What the run answers.
@@ -80,11 +88,10 @@ fn ran(j: Job) {
             io::write_all(1, b", past n");
             past(lo, n);
             past(hi, n);
-            result(b"", r);
+            line(b"");
+            show(r);
         }
-        Status::Refused(_, _) => {
-            io::write_all(1, b"\n");
-        }
+        Status::Refused(_, _) => line(b""),
     }
 }
 
@@ -95,8 +102,7 @@ pub fn job_into(j: Job, out: &mut [u8]) {
 
 pub fn job(name: &[u8], j: Job) {
     let mut out = [b'.'; ROOM];
-    io::write_all(1, name);
-    io::write_all(1, b"\n");
+    line(name);
     ran(j);
     job_into(j, &mut out);
 }

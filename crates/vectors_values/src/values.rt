@@ -43,7 +43,7 @@ fn equation(count: usize, first: Term, second: Term) -> Equation {
     Equation { count, terms }
 }
 
-// Two equations that play no part.
+// Equations that play no part.
 fn no_equations() -> [Equation; N] {
     [equation(MOST as usize, term(LEAST, 255, 255), term(0, 0, 0)); N]
 }
