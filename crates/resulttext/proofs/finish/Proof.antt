@@ -19,7 +19,7 @@ refused-requires-2 c κs = search needs
 
 returns : tie.Need-returns
 unfolding finished finishedAs
-returns c = rw (c .before .before .enum-told .given .1, ne-eqb _ _ (c .before .if1 .taken)) (c .refused2 .ensures)
+returns c = rw (c .before .before .enum-told .given .1, ne-eqb _ 0 (c .before .if1 .taken)) (c .refused2 .ensures)
 
 at-end-requires : tie.Need-at-end-requires
 at-end-requires c κs = search needs
@@ -32,7 +32,7 @@ unfolding finished finishedAs
 returns-2 c =
     rw (
       c .before .before .before .before .enum-told .given .1,
-      eq-eqb _ _ (c .before .before .before .if1 .left),
+      eq-eqb _ 0 (c .before .before .before .if1 .left),
       ← c .before .before .at-end .ensures,
       c .before .if2 .taken,
     )
@@ -47,7 +47,7 @@ unfolding finished finishedAs
 returns-4 c =
     rw (
       c .before .before .before .before .enum-told .given .1,
-      eq-eqb _ _ (c .before .before .before .if1 .left),
+      eq-eqb _ 0 (c .before .before .before .if1 .left),
       ← c .before .before .at-end .ensures,
       c .before .if2 .left,
     )
