@@ -2,12 +2,12 @@
 use Prim.Native.Nat.{ℕ}
 use mathlib.Core.Path.{_≡_}
 use mathlib.Core.List.{List}
-use Rattle.jobs.specs.declared.Fault.{Fault}
-use Rattle.jobs.specs.declared.Status.{Status}
-use Rattle.jobs.specs.Checks.{andThen}
-use Rattle.writing.specs.declared.Written.{Written}
-use Rattle.writing.specs.Answer.{refused, Leaves}
-use Rattle.writing.proofs.Answer.{values-bad}
+use Rattle.faults.specs.declared.Fault.{Fault}
+use Rattle.faults.specs.declared.Status.{Status}
+use Rattle.faults.specs.Checks.{andThen}
+use Rattle.faults.specs.declared.Written.{Written}
+use Rattle.faults.specs.Answer.{refused, Leaves}
+use Rattle.faults.proofs.Answer.{values-bad}
 
 module _ {st : Status} {t old : List ℕ} where
   pub read-bad : {f : Fault} {line : ℕ} (next : Status) → st ≡ Status.Refused f line → Leaves (andThen st next) t old old (refused (Status.Refused f line))

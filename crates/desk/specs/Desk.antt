@@ -1,14 +1,16 @@
--- What the desk makes of a text. A fault "writes nowhere", so that each entry has a status and the bytes that are written where it is no fault.
+-- What the desk makes of a text. A fault "writes nowhere", so that each entry has a status and the bytes that are
+-- written where it is no fault.
 use Prim.Native.Nat.{ℕ}
 use mathlib.Core.List.{List}
-use Rattle.jobs.specs.Checks.{andThen, checkJob}
+use Rattle.faults.specs.Checks.{andThen}
+use Rattle.jobs.specs.Checks.{checkJob}
 use Rattle.jobs.specs.CheckResult.{checkResult}
-use Rattle.resulttext.specs.ResultText.{readResult}
-use Rattle.resultwrite.specs.Show.{showResult}
-use Rattle.jobtext.specs.JobText.{readJob}
-use Rattle.jobwrite.specs.ShowJob.{jobBytes}
+use Rattle.result_form.specs.ResultForm.{readResult}
+use Rattle.result_form.specs.ResultShows.{showResult}
+use Rattle.job_form.specs.JobForm.{readJob}
+use Rattle.job_form.specs.JobBytes.{jobBytes}
 use Rattle.run.specs.Job.{runJob}
-use Rattle.jobs.specs.declared.Status.{Status}
+use Rattle.faults.specs.declared.Status.{Status}
 use Rattle.jobs.specs.declared.Job.{Job}
 
 -- a job text is read and written again

@@ -1,25 +1,25 @@
 // From text to text: a job's answer, and both texts written again. A fault of the text is returned and writes nowhere.
 ghost use mathlib.Core.Path.{_≡_};
-ghost use Rattle.jobs.specs.Words.{faultNumber};
-ghost use Rattle.writing.specs.Answer.{Leaves};
+ghost use Rattle.faults.specs.declared.Status.{Status};
+ghost use Rattle.faults.specs.Answer.{Leaves};
+ghost use Rattle.jobs.specs.Checks.{checkJob};
 ghost use Rattle.desk.specs.Desk.{jobStatus, jobText, resultStatus, resultText, runStatus, runText, solveStatus, solveText};
-use jobs::Fault;
+use faults::Status;
+use faults::Written;
 use jobs::Job;
-use jobs::Status;
-use writing::Written;
 
 // A result text, read and written again.
 pub fn rewrite_result(text: &[u8], out: &mut [u8]) -> Written
     ensures { λ a. ⌜ Leaves (resultStatus (now (text .entry))) (resultText (now (text .entry))) (now (out .entry)) (now (out .exit)) a ⌝ }
 {
-    let read = resulttext::read_result(text);
+    let read = result_read::read_result(text);
     let status = read.status;
     match status {
         Status::Refused(f, line) => Written {
             status: Status::Refused(f, line),
             len: 0,
         },
-        Status::Done => resultwrite::write_result(read.result, out),
+        Status::Done => result_write::write_ready(read.result, out),
     }
 }
 
@@ -27,36 +27,30 @@ pub fn rewrite_result(text: &[u8], out: &mut [u8]) -> Written
 pub fn rewrite_job(text: &[u8], out: &mut [u8]) -> Written
     ensures { λ a. ⌜ Leaves (jobStatus (now (text .entry))) (jobText (now (text .entry))) (now (out .entry)) (now (out .exit)) a ⌝ }
 {
-    let read = jobtext::read_job(text);
+    let read = job_read::read_job(text);
     let status = read.status;
     match status {
         Status::Refused(f, line) => Written {
             status: Status::Refused(f, line),
             len: 0,
         },
-        Status::Done => jobwrite::write_job(read.job, out),
+        Status::Done => job_write::write_ready(read.job, out),
     }
 }
 
+// What a reader took needs no second check, and neither does what a run made of it.
 fn write_run(j: Job, out: &mut [u8]) -> Written
+    requires { ⌜ checkJob j ≡ Status.Done ⌝ }
     ensures { λ a. ⌜ Leaves (runStatus j) (runText j) (now (out .entry)) (now (out .exit)) a ⌝ }
 {
-    let answer = run::run(j);
-    let status = answer.status;
-    match status {
-        Status::Refused(f, line) => Written {
-            status: Status::Refused(f, line),
-            len: 0,
-        },
-        Status::Done => resultwrite::write_result(answer.result, out),
-    }
+    result_write::write_ready(run::accepted(j), out)
 }
 
 // A job text, answered by the text of its result.
 pub fn solve(text: &[u8], out: &mut [u8]) -> Written
     ensures { λ a. ⌜ Leaves (solveStatus (now (text .entry))) (solveText (now (text .entry))) (now (out .entry)) (now (out .exit)) a ⌝ }
 {
-    let read = jobtext::read_job(text);
+    let read = job_read::read_job(text);
     let status = read.status;
     match status {
         Status::Refused(f, line) => Written {
@@ -64,20 +58,5 @@ pub fn solve(text: &[u8], out: &mut [u8]) -> Written
             len: 0,
         },
         Status::Done => write_run(read.job, out),
-    }
-}
-
-pub fn fault_number(f: Fault) -> u64
-    ensures { λ r. ⌜ r ≡ faultNumber f ⌝ }
-{
-    match f {
-        Fault::LongText => 1,
-        Fault::Spelling => 2,
-        Fault::Unknowns => 3,
-        Fault::Beyond => 4,
-        Fault::Crossed => 5,
-        Fault::Terms => 6,
-        Fault::ShortBuffer => 7,
-        Fault::Steps => 8,
     }
 }

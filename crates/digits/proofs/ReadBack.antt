@@ -1,12 +1,11 @@
 -- A number that is written is read back.
 use Prim.Native.Nat.{ℕ, zero, suc, _+_, _-_, _*_, _/_, _%_, _^_, _≤_, _<_}
 use native.Mathlib.Omega.{arith}
-use native.Mathlib.Nat.{pow-suc, div-lt-iff-lt-mul}
 use mathlib.Core.Path.{_≡_, refl, ap, _∙_}
 use mathlib.Core.List.{List, [], _∷_, _++_}
 use mathlib.Core.Bool.{Bool, true, false, cond}
 use lib.ListN.{length, getD, List·getD-append}
-use lib.Dec.{ltb, lit<}
+use lib.Dec.{ltb}
 use lib.IntN.{ℤ, pos, negsuc, natAbs}
 use borrow.Author.Tests.{le-ltb, ne-eqb}
 use Rattle.digits.specs.declared.Magnitude.{Magnitude}
@@ -15,7 +14,7 @@ use Rattle.digits.specs.Bytes.{digit0, digit9, minusSign}
 use Rattle.digits.specs.Number.{digitsMax, digitsFrom, readMagnitude, withMinus, withoutMinus, readNumber}
 use Rattle.digits.specs.Show.{showMagnitude, showNumber}
 use Rattle.digits.proofs.Cases.{either}
-use Rattle.digits.proofs.Show.{show-low, show-high, show-long, show-short}
+use Rattle.digits.proofs.Show.{show-low, show-high, show-long, show-short, tenth-below}
 
 -- what is read so far, and then ys
 after : Magnitude → List ℕ → Magnitude
@@ -39,9 +38,6 @@ digit-one v d h =
     let e : digit0 + d - digit0 ≡ d = omega arith in
     rw (le-ltb (digit0 + d) digit0 (omega arith), le-ltb digit9 (digit0 + d) (omega arith), e)
 
-tenth : (k m : ℕ) → m < 10 ^ suc k → m / 10 < 10 ^ k
-tenth k m h = div-lt-iff-lt-mul {k = 10} {x = m} {y = 10 ^ k} (lit< tt) .1 (rw pow-suc at h)
-
 few : (k m : ℕ) → m < 10 → digitsFrom 0 (showMagnitude (suc k) m) ≡ Magnitude.Is m
 few k m q = rw (show-low k m q) (digit-one 0 m q ∙ ap Magnitude.Is (omega arith))
 
@@ -54,14 +50,14 @@ more k m ih q =
 
 pub digits-back : (k m : ℕ) → m < 10 ^ suc k → digitsFrom 0 (showMagnitude (suc k) m) ≡ Magnitude.Is m
 digits-back zero m h = few zero m (omega arith)
-digits-back (suc k) m h = either m 10 (few (suc k) m) (more (suc k) m (digits-back k (m / 10) (tenth (suc k) m h)))
+digits-back (suc k) m h = either m 10 (few (suc k) m) (more (suc k) m (digits-back k (m / 10) (tenth-below (suc k) m h)))
 
 -- the first byte is a digit, and no 0 unless the number is 0
 first : (k m : ℕ) → m < 10 ^ suc k
     → (digit0 ≤ getD (showMagnitude (suc k) m) 0 0) × (1 ≤ m → digit0 < getD (showMagnitude (suc k) m) 0 0)
 first zero m h = rw (show-low zero m (omega arith)) (omega arith, λ q. omega arith)
 first (suc k) m h =
-    let ih = first k (m / 10) (tenth (suc k) m h) in
+    let ih = first k (m / 10) (tenth-below (suc k) m h) in
     let l = show-long k (m / 10) in
     either m 10
     (λ p. rw (show-low (suc k) m p) (omega arith, λ q. omega arith))

@@ -35,16 +35,11 @@ equations eqs = tab nMax (length eqs) zeroEquation (λ i. equation (getD eqs i [
 -- "Order: job, kind, n, lo, hi, inv, steps, then n lines", without the lines of the system
 abbrev head : ℕ → Kind → List ℤ → List ℤ → List (List ℤ) → ℕ → List Equation → List Row → List ℤ → Job
 head number kind lo hi inv steps eqs rows right = record {
-  number = number;
-  kind = kind;
-  n = length lo;
-  lo = numbers lo;
-  hi = numbers hi;
+  head = record { number = number; kind = kind; n = length lo };
+  ends = record { lo = numbers lo; hi = numbers hi };
   inv = matrix inv;
   steps = steps;
-  eqs = eqs;
-  rows = rows;
-  right = right;
+  system = record { eqs = eqs; rows = rows; right = right };
 }
 
 abbrev pub polyJob : ℕ → List ℤ → List ℤ → List (List ℤ) → ℕ → List (List Term) → Job

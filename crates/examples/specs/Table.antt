@@ -13,7 +13,7 @@ use Rattle.run.specs.Step.{imageOf}
 use Rattle.run.specs.Run.{outcome}
 use Rattle.run.specs.Job.{inverseOf, startOf, resultOf, runJob}
 use Rattle.jobs.specs.declared.Job.{Job}
-use Rattle.jobs.specs.declared.Status.{Status}
+use Rattle.faults.specs.declared.Status.{Status}
 use Rattle.jobs.specs.declared.Verdict.{Verdict}
 use Rattle.run.specs.declared.Answer.{Answer}
 use Rattle.examples.specs.Jobs.{minus, job41, job7, job9, job11, job12}
@@ -45,15 +45,15 @@ runs j v steps x = record {
 
 -- K of a job of one unknown
 abbrev image : Job → Thing
-image j = Thing.interval (imageOf (j .n) (equationOf j) (inverseOf j) (sideAt (startOf j)) 0)
+image j = Thing.interval (imageOf (j .head .n) (equationOf j) (inverseOf j) (sideAt (startOf j)) 0)
 
 -- equation i of a job at a point p of whole marks: by the exact formulas,
 abbrev valueAt : Job → List ℤ → ℕ → Thing
-valueAt j p i = Thing.number (equationNum (j .n) (equationOf j i) (numberAt p) (pos 1))
+valueAt j p i = Thing.number (equationNum (j .head .n) (equationOf j i) (numberAt p) (pos 1))
 
 -- and as a step takes it, over the box [p, p]
 abbrev valueOver : Job → List ℤ → ℕ → Thing
-valueOver j p i = Thing.interval (equationOver (j .n) (equationOf j i) (λ k. pointI (numberAt p k)))
+valueOver j p i = Thing.interval (equationOver (j .head .n) (equationOf j i) (λ k. pointI (numberAt p k)))
 
 -- "at the point .. both equations are" this
 abbrev bothAre : (ℕ → Thing) → Thing → Example

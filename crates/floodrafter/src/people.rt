@@ -5,13 +5,13 @@ use crate::streams::fill;
 use crate::streams::put;
 use crate::streams::say;
 use crate::streams::say_number;
+use faults::Status;
+use faults::Written;
 use framing::Op;
 use framing::ROOM;
 use framing::reply;
 use framing::tell;
-use jobs::Status;
 use sizes::TEXT;
-use writing::Written;
 
 // What a text is answered by.
 pub enum How {
@@ -45,7 +45,7 @@ fn explain(op: Op, status: Status, name: &[u8], text: &[u8]) -> Outcome {
                 say_number(line);
             }
             say(b": fault ");
-            say_number(desk::fault_number(f));
+            say_number(faults::fault_number(f));
             say(b": ");
             expected(op, f, line, text);
             say(b"\n");

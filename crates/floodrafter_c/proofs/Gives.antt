@@ -2,9 +2,9 @@
 use Prim.Native.Nat.{ℕ}
 use mathlib.Core.Path.{_≡_, sym, ap, _∙_}
 use mathlib.Core.List.{List}
-use Rattle.jobs.specs.declared.Status.{Status}
-use Rattle.writing.specs.declared.Written.{Written}
-use Rattle.writing.specs.Answer.{Leaves}
+use Rattle.faults.specs.declared.Status.{Status}
+use Rattle.faults.specs.declared.Written.{Written}
+use Rattle.faults.specs.Answer.{Leaves}
 use Rattle.floodrafter_c.specs.declared.Answer.{Answer}
 use Rattle.floodrafter_c.specs.Numbers.{numbersOf, Gives}
 

@@ -2,10 +2,10 @@
 use Prim.Native.Nat.{ℕ}
 use mathlib.Core.Path.{_≡_}
 use mathlib.Core.List.{List}
-use Rattle.jobs.specs.declared.Status.{Status}
-use Rattle.jobs.specs.Words.{numberOf, lineOf}
-use Rattle.writing.specs.declared.Written.{Written}
-use Rattle.writing.specs.Answer.{answerOf, leftIn}
+use Rattle.faults.specs.declared.Status.{Status}
+use Rattle.faults.specs.Words.{numberOf, lineOf}
+use Rattle.faults.specs.declared.Written.{Written}
+use Rattle.faults.specs.Answer.{answerOf, leftIn}
 use Rattle.floodrafter_c.specs.declared.Answer.{Answer}
 
 abbrev pub numbersOf : Written → Answer

@@ -1,11 +1,11 @@
 // For C: a text is a pointer and a length, an answer three numbers. `include/floodrafter.h` is the other side.
 ghost use mathlib.Core.Path.{_≡_};
-ghost use Rattle.jobtext.specs.JobText.{readJob};
-ghost use Rattle.resulttext.specs.ResultText.{readResult};
+ghost use Rattle.job_form.specs.JobForm.{readJob};
+ghost use Rattle.result_form.specs.ResultForm.{readResult};
 ghost use Rattle.desk.specs.Desk.{jobStatus, jobText, resultStatus, resultText, solveStatus, solveText};
 ghost use Rattle.floodrafter_c.specs.Numbers.{numbersOf, checked, Gives};
-use jobs::Status;
-use writing::Written;
+use faults::Status;
+use faults::Written;
 
 // `floodrafter_answer` of the header.
 #[repr(C)]
@@ -26,7 +26,7 @@ fn numbers(w: Written) -> Answer
             len: w.len,
         },
         Status::Refused(f, line) => Answer {
-            fault: desk::fault_number(f),
+            fault: faults::fault_number(f),
             line,
             len: w.len,
         },
@@ -61,7 +61,7 @@ pub extern "C" fn floodrafter_rewrite_result(text: &[u8], out: &mut [u8]) -> Ans
 pub extern "C" fn floodrafter_check_job(text: &[u8]) -> Answer
     ensures { λ a. ⌜ a ≡ checked (readJob (now (text .entry)) .status) ⌝ }
 {
-    let read = jobtext::read_job(text);
+    let read = job_read::read_job(text);
     let status = read.status;
     numbers(Written { status, len: 0 })
 }
@@ -70,7 +70,7 @@ pub extern "C" fn floodrafter_check_job(text: &[u8]) -> Answer
 pub extern "C" fn floodrafter_check_result(text: &[u8]) -> Answer
     ensures { λ a. ⌜ a ≡ checked (readResult (now (text .entry)) .status) ⌝ }
 {
-    let read = resulttext::read_result(text);
+    let read = result_read::read_result(text);
     let status = read.status;
     numbers(Written { status, len: 0 })
 }

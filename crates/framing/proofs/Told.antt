@@ -6,11 +6,11 @@ use mathlib.Core.Path.{_≡_, sym, ap, _∙_}
 use mathlib.Core.List.{List, _++_, append-nil}
 use lib.ListN.{length, drop, take-append-drop}
 use lib.Seq.{sets-eq, length-take-le, take-all, drop-length}
-use Rattle.jobs.specs.Words.{numberOf, lineOf}
-use Rattle.jobs.specs.declared.Fault.{Fault}
-use Rattle.jobs.specs.declared.Status.{Status}
+use Rattle.faults.specs.Words.{numberOf, lineOf}
+use Rattle.faults.specs.declared.Fault.{Fault}
+use Rattle.faults.specs.declared.Status.{Status}
 use Rattle.writing.specs.Wrote.{Wrote}
-use Rattle.writing.specs.declared.Written.{Written}
+use Rattle.faults.specs.declared.Written.{Written}
 use Rattle.writing.proofs.Wrote.{wrote-length}
 use Rattle.writing.proofs.Lines.{count-line-short, end-length, end-none}
 use Rattle.framing.specs.Answers.{roomMax, faultKey, lineKey, faultBytes, toldOf, Tells}

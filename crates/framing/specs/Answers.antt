@@ -8,10 +8,10 @@ use Rattle.digits.specs.Bytes.{lineFeed}
 use Rattle.digits.specs.Number.{digitsMax}
 use Rattle.digits.specs.Show.{showMagnitude}
 use Rattle.text.specs.Cut.{endEach}
-use Rattle.jobs.specs.Words.{numberOf, lineOf}
-use Rattle.jobs.specs.declared.Status.{Status}
+use Rattle.faults.specs.Words.{numberOf, lineOf}
+use Rattle.faults.specs.declared.Status.{Status}
 use Rattle.writing.specs.Wrote.{Wrote, line}
-use Rattle.writing.specs.declared.Written.{Written}
+use Rattle.faults.specs.declared.Written.{Written}
 use Rattle.desk.specs.Desk.{solveStatus, solveText, jobStatus, jobText, resultStatus, resultText}
 use Rattle.framing.specs.declared.requests.Op.{Op}
 

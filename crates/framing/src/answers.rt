@@ -2,15 +2,15 @@
 ghost use mathlib.Core.Path.{_≡_};
 ghost use Prim.Native.Nat.{_+_, _≤_, _<_};
 ghost use lib.ListN.{length};
-ghost use Rattle.jobs.specs.declared.Status.{Status};
+ghost use Rattle.faults.specs.declared.Status.{Status};
 ghost use Rattle.writing.specs.Wrote.{placeMax, Wrote};
-ghost use Rattle.writing.specs.Answer.{Leaves};
+ghost use Rattle.faults.specs.Answer.{Leaves};
 ghost use Rattle.framing.specs.Answers.{statusOf, textOf, roomMax, faultBytes, lineMax, Tells, Puts};
 use crate::requests::Op;
-use jobs::Fault;
-use jobs::Status;
+use faults::Fault;
+use faults::Status;
+use faults::Written;
 use sizes::TEXT;
-use writing::Written;
 use writing::put_bytes;
 use writing::put_count_line;
 
@@ -30,7 +30,7 @@ pub fn reply(op: Op, text: &[u8], out: &mut [u8]) -> Written
 fn put_fault(out: &mut [u8], f: Fault, line: u64) -> usize
     ensures { λ r. ⌜ Wrote (now (out .entry)) (now (out .exit)) 0 r (faultBytes (Status.Refused f line)) ⌝ }
 {
-    let number = desk::fault_number(f);
+    let number = faults::fault_number(f);
     let a = put_count_line(out, 0, b"fault=", number);
     put_count_line(out, a, b"line=", line)
 }

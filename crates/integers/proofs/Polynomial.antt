@@ -1,7 +1,7 @@
 -- Orders between polynomial expressions, by omega: each monomial of the normal form of r - l is handed over as one unknown.
 --     given ρ l r h     what h : (the value of l) ≤ℤ (the value of r) says of those unknowns
 --     shown ρ l r t     such an order, from what it says
--- l and r are functions of the variables, whose values are ρ, as in `ring`. `given<`, `given≡`, `shown<` and `shown≡` likewise.
+-- l and r are functions of the variables, whose values are ρ, as in `ring`. `shown<` likewise.
 use mathlib.Core.Path.{_≡_, refl, sym, ap, _∙_}
 use mathlib.Core.List.{List, [], _∷_}
 use Prim.Native.Nat.{ℕ, suc, _+_, _*_, _≤_, _<_}
@@ -64,17 +64,8 @@ module _ (ρ : List ℤ) (l r : Over (length ρ)) where
   pub given : val ρ left ≤ℤ val ρ right → below ≤ above
   given h = omega (zorder, both, sub-pn (val ρ right) (val ρ left))
 
-  pub given< : val ρ left <ℤ val ρ right → below < above
-  given< h = omega (zorder, both, sub-pn (val ρ right) (val ρ left))
-
-  pub given≡ : val ρ left ≡ val ρ right → below ≡ above
-  given≡ h = omega (zorder, both, sub-pn (val ρ right) (val ρ left))
-
   pub shown : below ≤ above → val ρ left ≤ℤ val ρ right
   shown h = omega (zorder, both, sub-pn (val ρ right) (val ρ left))
 
   pub shown< : below < above → val ρ left <ℤ val ρ right
   shown< h = omega (zorder, both, sub-pn (val ρ right) (val ρ left))
-
-  pub shown≡ : below ≡ above → val ρ left ≡ val ρ right
-  shown≡ h = omega (zorder, both, sub-pn (val ρ right) (val ρ left))

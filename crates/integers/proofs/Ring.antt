@@ -38,11 +38,6 @@ abbrev pub mval : List ℤ → List ℕ → ℤ
 mval ρ [] = pos 1
 mval ρ (i ∷ m) = at ρ i *ℤ mval ρ m
 
-abbrev pick {ℓ} : {A : Type ℓ} → Ordering → A → A → A → A
-pick Ordering·lt x y z = x
-pick Ordering·eq x y z = y
-pick Ordering·gt x y z = z
-
 abbrev minto : ℕ → (List ℕ → List ℕ) → List ℕ → List ℕ
 minto i rec [] = i ∷ rec []
 minto i rec (j ∷ n) = elim (compare i j) [ Ordering·lt ↦ i ∷ rec (j ∷ n) | Ordering·eq ↦ i ∷ rec (j ∷ n) | Ordering·gt ↦ j ∷ minto i rec n ]

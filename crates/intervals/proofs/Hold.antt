@@ -9,14 +9,14 @@ use Rattle.integers.proofs.Commutative.{*ℤ-distrib-r, *ℤ-assoc, neg-*ℤ}
 use Rattle.integers.proofs.Parts.{zorder}
 use Rattle.integers.proofs.Linear.{zlin}
 use Rattle.integers.proofs.Ring.{lit, _⊕_, _⊗_, ring}
-use Rattle.integers.proofs.Order.{cancel-r, mul-mono-l, mul-mono-r, above-l, above-r, below-l, below-r, nonneg, pos-mul}
+use Rattle.integers.proofs.Order.{cancel-r, mul-mono-r, above-l, above-r, below-l, below-r, nonneg, pos-mul}
 use Rattle.integers.specs.Least.{min4, max4}
 use Rattle.integers.proofs.Least.{min4-1, min4-2, min4-3, min4-4, max4-1, max4-2, max4-3, max4-4}
 use Rattle.integers.specs.Sums.{sumTo}
 use Rattle.lists.specs.Loops.{carry}
 use Rattle.intervals.specs.declared.Interval.{Interval}
 use Rattle.intervals.specs.Interval.{mark, zeroI, pointI, addI, negI, sumI, scaleI, wideI, outI, mulI}
-use Rattle.intervals.specs.Fraction.{In, Inside}
+use Rattle.intervals.specs.Fraction.{In}
 use Rattle.intervals.proofs.Rounding.{out-low, out-high}
 
 pub hold-point : (c : ℤ) → In c (pos 1) (pointI c)
@@ -55,14 +55,6 @@ hold-low A h = record { den = omega zorder; low = simp zlin (omega zorder); high
 pub hold-high : (A : Interval) → A .lo ≤ℤ A .hi → In (A .hi) (pos 1) A
 hold-high A h = record { den = omega zorder; low = simp zlin (omega zorder); high = simp zlin (omega zorder) }
 
--- what lies in an interval lies in every interval around it
-pub hold-inside : {u U : ℤ} {A B : Interval} → In u U A → Inside A B → In u U B
-hold-inside h k = record {
-  den = h .den;
-  low = omega (zorder, h .low, mul-mono-r (k .low) (nonneg (h .den)));
-  high = omega (zorder, h .high, mul-mono-r (k .high) (nonneg (h .den)));
-}
-
 pub hold-add : {u v U : ℤ} {A B : Interval} → In u U A → In v U B → In (u +ℤ v) U (addI A B)
 unfolding addI
 hold-add {u} {v} {U} {A} {B} h k = record {
@@ -83,15 +75,6 @@ pub hold-sum : (n : ℕ) (f : ℕ → ℤ) (G : ℕ → Interval) {U : ℤ} → 
 unfolding sumTo sumI carry
 hold-sum zero f G p h = hold-zero p
 hold-sum (suc n) f G p h = hold-add (hold-sum n f G p (λ k l. h k (omega arith))) (h n (omega arith))
-
--- e times one member
-pub hold-scale : (e : ℕ) {u U : ℤ} {A : Interval} → In u U A → In (pos e *ℤ u) U (scaleI e A)
-unfolding scaleI
-hold-scale e {u} {U} {A} h = record {
-  den = h .den;
-  low = rw (*ℤ-assoc (pos e) (A .lo) U) (mul-mono-l {c = pos e} (h .low) (omega zorder));
-  high = rw (*ℤ-assoc (pos e) (A .hi) U) (mul-mono-l {c = pos e} (h .high) (omega zorder));
-}
 
 -- e members, each its own, added up
 pub hold-times : (e : ℕ) (f : ℕ → ℤ) {U : ℤ} {A : Interval} → pos 0 <ℤ U → ((i : ℕ) → i < e → In (f i) U A) → In (sumTo e f) U (scaleI e A)

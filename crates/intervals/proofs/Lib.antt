@@ -7,3 +7,4 @@ pub mod Ranges
 pub mod Hold
 pub mod Inclusion
 pub mod Places
+pub mod Around

@@ -34,6 +34,15 @@ pub record FitsMul (a b : Interval) : Type 0 where
   pub hl : SFits w64 (a .hi *ℤ b .lo)
   pub hh : SFits w64 (a .hi *ℤ b .hi)
 
+-- an interval that holds 0, as X - m does
+pub record AroundZero (a : Interval) : Type 0 where
+  pub low : a .lo ≤ℤ pos 0
+  pub high : pos 0 ≤ℤ a .hi
+
+pub record FitsAround (a b : Interval) : Type 0 where
+  pub exact : FitsMul a b
+  pub around : AroundZero b
+
 -- a product and its outward rounding
 pub record FitsTimes (a b : Interval) : Type 0 where
   pub exact : FitsMul a b

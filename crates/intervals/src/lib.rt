@@ -6,7 +6,7 @@ ghost use Rattle.integers.specs.Least.{minℤ, maxℤ, min4, max4};
 ghost use Rattle.integers.specs.Ranges.{Within};
 ghost use Rattle.intervals.specs.Interval.{mark, pointI, addI, negI, scaleI, wideI, outI, mulI, midI, cutI, meetsI, insideI, sameI};
 use sizes::MARK;
-ghost use Rattle.intervals.specs.Ranges.{FitsAdd, FitsNeg, FitsScale, FitsMul, FitsTimes, FitsMid};
+ghost use Rattle.intervals.specs.Ranges.{FitsAdd, FitsNeg, FitsScale, FitsMul, FitsAround, FitsTimes, FitsMid};
 
 // One short of a mark.
 const REST: i64 = MARK - 1;
@@ -122,6 +122,20 @@ pub fn mul_point(c: i64, x: Interval) -> Interval
     let q = c * x.hi;
     let lo = least(p, q);
     let hi = greatest(p, q);
+    Interval { lo: lo, hi: hi }
+}
+
+// The exact product with an interval that holds 0: two of the four products can be the least, the other two the greatest.
+pub fn mul_around(a: Interval, b: Interval) -> Interval
+    requires { ⌜ FitsAround a b ⌝ }
+    ensures { λ r. ⌜ r ≡ wideI a b ⌝ }
+{
+    let al = a.lo;
+    let ah = a.hi;
+    let bl = b.lo;
+    let bh = b.hi;
+    let lo = least(al * bh, ah * bl);
+    let hi = greatest(al * bl, ah * bh);
     Interval { lo: lo, hi: hi }
 }
 

@@ -13,15 +13,21 @@ use Rattle.jobs.specs.declared.Kind.{Kind}
 use Rattle.jobs.specs.declared.Term.{Term}
 use Rattle.jobs.specs.declared.Equation.{Equation}
 use Rattle.jobs.specs.declared.Job.{Job}
-use Rattle.jobs.specs.declared.Fault.{Fault}
-use Rattle.jobs.specs.declared.Status.{Status}
+use Rattle.faults.specs.declared.Fault.{Fault}
+use Rattle.faults.specs.declared.Finding.{Finding}
+use Rattle.faults.specs.declared.Status.{Status}
 use Rattle.jobs.specs.Places.{expOf, termAt, rowAt}
 use Rattle.jobs.specs.Terms.{alike, falls, inOrder, degree, goodTerm, goodPlace, goodTerms, goodCoefs}
-use Rattle.jobs.specs.Checks.{goodUnknowns, goodMatrix, numberLine, unknownsLine, lowLine, highLine, inverseLine, stepsLine, equationLine, rowLine, sidedLine, systemLine, systemLines, headLines, bodyLines, checkJob}
+use Rattle.jobs.specs.Checks.{goodUnknowns, goodMatrix}
+use Rattle.jobs.specs.Checks.{numberCheck, unknownsCheck, lowCheck, highCheck, inverseCheck, stepsCheck}
+use Rattle.jobs.specs.Checks.{equationCheck, rowCheck, sidedCheck, systemCheck, lineCheck}
+use Rattle.jobs.specs.Checks.{jobLineStatus, systemLines, headLines, bodyLines, checkJob}
 use Rattle.jobs.specs.Accepted.{Falls, GoodEquation, GoodSystem, Accepted}
 use Rattle.jobs.proofs.RangeLaws.{and-left, and-right, each-all, is-within, within-is, all-within, within-all, all-ordered, ordered-all}
 use Rattle.jobs.proofs.TermLaws.{falls-lower, abs-zero}
-use Rattle.jobs.proofs.CheckLaws.{done-first, done-next, both-done, unless-done, done-unless, lines-each, each-lines, unknowns-done}
+use Rattle.faults.proofs.Laws.{fine-first, fine-next, both-fine, unless-fine, fine-unless, fine-line, line-fine}
+use Rattle.faults.proofs.Laws.{done-first, done-next, both-done, lines-each, each-lines}
+use Rattle.jobs.proofs.CheckLaws.{unknowns-fine}
 
 -- ---- the order of two terms
 falls-order : (t u : Term) (n : ℕ) → falls t u n ≡ true → Falls t u n
@@ -92,58 +98,91 @@ module _ (q : Equation) (n : ℕ) where
           (rw (le-leb (degree n (expOf (termAt q k))) degreeMax (g .deg k l)) (order k l))
 
 -- ---- a line of the system
-system-done : (kind : Kind) (line : ℕ) (j : Job) (i : ℕ) → systemLine kind line j i ≡ Status.Done → GoodSystem kind j i
-unfolding systemLine equationLine rowLine sidedLine
-system-done Kind.Poly line j i e =
-    equation-good _ (j .n) (unless-done _ Fault.Beyond line (done-first _ _ e)) (unless-done _ Fault.Terms line (done-next _ _ e))
-system-done Kind.Linear line j i e = (
-  all-within _ (j .n) entryMax (unless-done _ Fault.Beyond line (done-first _ _ e)),
-  is-within _ entryMax (unless-done _ Fault.Beyond line (done-next _ _ e)),
+system-good : (kind : Kind) (j : Job) (i : ℕ) → systemCheck kind j i ≡ Finding.Fine → GoodSystem kind j i
+unfolding systemCheck equationCheck rowCheck sidedCheck
+system-good Kind.Poly j i e =
+    equation-good _ (j .head .n) (unless-fine _ Fault.Beyond (fine-first _ _ e)) (unless-fine _ Fault.Terms (fine-next _ _ e))
+system-good Kind.Linear j i e = (
+  all-within _ (j .head .n) entryMax (unless-fine _ Fault.Beyond (fine-first _ _ e)),
+  is-within _ entryMax (unless-fine _ Fault.Beyond (fine-next _ _ e)),
 )
-system-done Kind.Eigen line j i e = all-within _ (j .n) entryMax (unless-done _ Fault.Beyond line e)
+system-good Kind.Eigen j i e = all-within _ (j .head .n) entryMax (unless-fine _ Fault.Beyond e)
 
-done-system : (kind : Kind) (line : ℕ) (j : Job) (i : ℕ) → GoodSystem kind j i → systemLine kind line j i ≡ Status.Done
-unfolding systemLine equationLine rowLine sidedLine
-done-system Kind.Poly line j i g =
-    both-done (done-unless Fault.Beyond line (good-coefs _ (j .n) g)) (done-unless Fault.Terms line (good-terms _ (j .n) g))
-done-system Kind.Linear line j i g =
-    both-done (done-unless Fault.Beyond line (within-all _ (j .n) entryMax (g .0))) (done-unless Fault.Beyond line (within-is (g .1)))
-done-system Kind.Eigen line j i g = done-unless Fault.Beyond line (within-all _ (j .n) entryMax g)
+good-system : (kind : Kind) (j : Job) (i : ℕ) → GoodSystem kind j i → systemCheck kind j i ≡ Finding.Fine
+unfolding systemCheck equationCheck rowCheck sidedCheck
+good-system Kind.Poly j i g = both-fine (fine-unless Fault.Beyond (good-coefs _ (j .head .n) g)) (fine-unless Fault.Terms (good-terms _ (j .head .n) g))
+good-system Kind.Linear j i g =
+    both-fine (fine-unless Fault.Beyond (within-all _ (j .head .n) entryMax (g .0))) (fine-unless Fault.Beyond (within-is (g .1)))
+good-system Kind.Eigen j i g = fine-unless Fault.Beyond (within-all _ (j .head .n) entryMax g)
 
--- a job in which the checks find nothing is accepted
-pub check-done : (j : Job) → checkJob j ≡ Status.Done → Accepted j
-unfolding checkJob headLines bodyLines numberLine lowLine highLine inverseLine goodMatrix stepsLine systemLines
-check-done j e =
+-- ---- line after line
+
+-- on each line nothing is found
+pub record Clean (j : Job) : Type 0 where
+  pub number : numberCheck (j .head .number) ≡ Finding.Fine
+  pub unknowns : unknownsCheck (j .head .n) ≡ Finding.Fine
+  pub low : lowCheck (j .head .n) (j .ends .lo) ≡ Finding.Fine
+  pub high : highCheck (j .head .n) (j .ends .lo) (j .ends .hi) ≡ Finding.Fine
+  pub inverse : inverseCheck (j .head .n) (j .inv) ≡ Finding.Fine
+  pub steps : stepsCheck (j .steps) ≡ Finding.Fine
+  pub system : (i : ℕ) → i < j .head .n → systemCheck (j .head .kind) j i ≡ Finding.Fine
+
+pub check-clean : (j : Job) → checkJob j ≡ Status.Done → Clean j
+unfolding checkJob headLines bodyLines systemLines jobLineStatus lineCheck
+check-clean j e =
     let head = done-first _ _ e in
     let low = done-next _ _ e in
     let high = done-next _ _ low in
     let inverse = done-next _ _ high in
     let steps = done-next _ _ inverse in
     let system = done-next _ _ steps in
-    let n = unknowns-done 3 (j .n) (done-next _ _ head) in
     record {
-      number = leb-true (j .number) numberMax (unless-done _ Fault.Beyond 1 (done-first _ _ head));
+      number = fine-line _ _ (done-first _ _ head);
+      unknowns = fine-line _ _ (done-next _ _ (done-next _ _ head));
+      low = fine-line _ _ (done-first _ _ low);
+      high = fine-line _ _ (done-first _ _ high);
+      inverse = fine-line _ _ (done-first _ _ inverse);
+      steps = fine-line _ _ (done-first _ _ steps);
+      system = λ i l. fine-line _ _ (lines-each _ (j .head .n) i l system);
+    }
+
+pub clean-check : (j : Job) → Clean j → checkJob j ≡ Status.Done
+unfolding checkJob headLines bodyLines systemLines jobLineStatus lineCheck
+clean-check j c =
+    both-done (both-done (line-fine _ (c .number)) (both-done (line-fine _ refl) (line-fine _ (c .unknowns))))
+    (both-done (line-fine _ (c .low))
+    (both-done (line-fine _ (c .high))
+    (both-done (line-fine _ (c .inverse))
+    (both-done (line-fine _ (c .steps)) (each-lines _ (j .head .n) (λ i l. line-fine _ (c .system i l)))))))
+
+-- a job in which the checks find nothing is accepted
+pub check-done : (j : Job) → checkJob j ≡ Status.Done → Accepted j
+unfolding numberCheck lowCheck highCheck inverseCheck goodMatrix stepsCheck
+check-done j e =
+    let c = check-clean j e in
+    let n = unknowns-fine (j .head .n) (c .unknowns) in
+    record {
+      number = leb-true (j .head .number) numberMax (unless-fine _ Fault.Beyond (c .number));
       some = n .0;
       few = n .1;
-      low = all-within (j .lo) (j .n) endMax (unless-done _ Fault.Beyond 4 (done-first _ _ low));
-      high = all-within (j .hi) (j .n) endMax (unless-done _ Fault.Beyond 5 (done-first _ _ (done-first _ _ high)));
-      ordered = all-ordered (j .lo) (j .hi) (j .n) (unless-done _ Fault.Crossed 5 (done-next _ _ (done-first _ _ high)));
-      inverse = λ i l. all-within (rowAt (j .inv) i) (j .n) entryMax (all-each _ (j .n) i l (unless-done _ Fault.Beyond 6 (done-first _ _ inverse)));
-      steps = leb-true (j .steps) stepsMax (unless-done _ Fault.Steps 7 (done-first _ _ steps));
-      system = λ i l. system-done (j .kind) (8 + i) j i (lines-each _ (j .n) i l system);
+      low = all-within (j .ends .lo) (j .head .n) endMax (unless-fine _ Fault.Beyond (c .low));
+      high = all-within (j .ends .hi) (j .head .n) endMax (unless-fine _ Fault.Beyond (fine-first _ _ (c .high)));
+      ordered = all-ordered (j .ends .lo) (j .ends .hi) (j .head .n) (unless-fine _ Fault.Crossed (fine-next _ _ (c .high)));
+      inverse = λ i l. all-within (rowAt (j .inv) i) (j .head .n) entryMax (all-each _ (j .head .n) i l (unless-fine _ Fault.Beyond (c .inverse)));
+      steps = leb-true (j .steps) stepsMax (unless-fine _ Fault.Steps (c .steps));
+      system = λ i l. system-good (j .head .kind) j i (c .system i l);
     }
 
 -- and in an accepted job they find nothing
 pub done-check : (j : Job) → Accepted j → checkJob j ≡ Status.Done
-unfolding checkJob headLines bodyLines numberLine unknownsLine goodUnknowns lowLine highLine inverseLine goodMatrix stepsLine systemLines
-done-check j a =
-    both-done
-    (both-done (done-unless Fault.Beyond 1 (le-leb (j .number) numberMax (a .number)))
-    (done-unless Fault.Unknowns 3 (rw (le-leb 1 (j .n) (a .some), le-leb (j .n) nMax (a .few)))))
-    (both-done (done-unless Fault.Beyond 4 (within-all (j .lo) (j .n) endMax (a .low)))
-    (both-done
-    (both-done (done-unless Fault.Beyond 5 (within-all (j .hi) (j .n) endMax (a .high)))
-    (done-unless Fault.Crossed 5 (ordered-all (j .lo) (j .hi) (j .n) (a .ordered))))
-    (both-done (done-unless Fault.Beyond 6 (each-all _ (j .n) (λ i l. within-all (rowAt (j .inv) i) (j .n) entryMax (a .inverse i l))))
-    (both-done (done-unless Fault.Steps 7 (le-leb (j .steps) stepsMax (a .steps)))
-    (each-lines _ (j .n) (λ i l. done-system (j .kind) (8 + i) j i (a .system i l)))))))
+unfolding numberCheck unknownsCheck goodUnknowns lowCheck highCheck inverseCheck goodMatrix stepsCheck
+done-check j a = clean-check j (record {
+  number = fine-unless Fault.Beyond (le-leb (j .head .number) numberMax (a .number));
+  unknowns = fine-unless Fault.Unknowns (rw (le-leb 1 (j .head .n) (a .some), le-leb (j .head .n) nMax (a .few)));
+  low = fine-unless Fault.Beyond (within-all (j .ends .lo) (j .head .n) endMax (a .low));
+  high = both-fine (fine-unless Fault.Beyond (within-all (j .ends .hi) (j .head .n) endMax (a .high)))
+      (fine-unless Fault.Crossed (ordered-all (j .ends .lo) (j .ends .hi) (j .head .n) (a .ordered)));
+  inverse = fine-unless Fault.Beyond (each-all _ (j .head .n) (λ i l. within-all (rowAt (j .inv) i) (j .head .n) entryMax (a .inverse i l)));
+  steps = fine-unless Fault.Steps (le-leb (j .steps) stepsMax (a .steps));
+  system = λ i l. good-system (j .head .kind) j i (a .system i l);
+})

@@ -1,17 +1,19 @@
 -- A result has no fault exactly where each of its values is within its size.
 use Prim.Native.Nat.{ℕ, _<_, _≤_}
-use native.Mathlib.Omega.{arith}
 use mathlib.Core.Path.{_≡_, refl}
-use mathlib.Core.Bool.{Bool, true, false, cond, not, true≢false}
-use lib.Dec.{eqb, ltb}
+use mathlib.Core.Bool.{true}
 use lib.IntN.{pos}
-use borrow.Author.Tests.{ltb-false, eqb-false, le-ltb, ne-eqb}
+use borrow.Author.Tests.{leb-true, le-leb}
 use Rattle.sizes.specs.Sizes.{nMax, stepsMax, numberMax, endMax}
-use Rattle.jobs.specs.declared.Fault.{Fault}
+use Rattle.faults.specs.declared.Fault.{Fault}
+use Rattle.faults.specs.declared.Status.{Status}
+use Rattle.faults.proofs.Laws.{fine-first, fine-next, both-fine, unless-fine, fine-unless, fine-line, line-fine}
+use Rattle.faults.proofs.Laws.{done-first, done-next, both-done}
 use Rattle.jobs.specs.declared.Result.{Result}
-use Rattle.jobs.specs.declared.Status.{Status}
 use Rattle.jobs.specs.Ranges.{allWithin, allOrdered}
-use Rattle.jobs.specs.CheckResult.{numberAt, stepsAt, loAt, hiAt, checkResult}
+use Rattle.jobs.specs.Checks.{numberCheck, stepsCheck, lowCheck, highCheck}
+use Rattle.jobs.specs.CheckResult.{countCheck, countedCheck, resultCheck, resultLineStatus, checkResult}
+use Rattle.jobs.proofs.CheckLaws.{count-fine}
 
 pub record Sound (r : Result) : Type 0 where
   pub number : r .number ≤ numberMax
@@ -22,44 +24,30 @@ pub record Sound (r : Result) : Type 0 where
   pub high : allWithin (r .hi) (r .n) (pos endMax) ≡ true
   pub ordered : allOrdered (r .lo) (r .hi) (r .n) ≡ true
 
--- a test that is passed
-passed : (t : Bool) (f : Fault) (line : ℕ) (x : Status) → cond t (Status.Refused f line) x ≡ Status.Done → (t ≡ false) × (x ≡ Status.Done)
-passed true f line x e = absurd (let z : _≡_ {A = ℕ} 0 1 = cc in omega arith)
-passed false f line x e = (refl, e)
-
-not-false : (t : Bool) → not t ≡ false → t ≡ true
-not-false true e = refl
-not-false false e = absurd (true≢false e)
-
 pub sound : (r : Result) → checkResult r ≡ Status.Done → Sound r
-unfolding checkResult
+unfolding checkResult resultLineStatus resultCheck countedCheck numberCheck stepsCheck lowCheck highCheck
 sound r e =
-    let number = passed (ltb numberMax (r .number)) Fault.Beyond numberAt _ e in
-    let steps = passed (ltb stepsMax (r .steps)) Fault.Steps stepsAt _ (number .1) in
-    let some = passed (eqb (r .n) 0) Fault.Spelling loAt _ (steps .1) in
-    let few = passed (ltb nMax (r .n)) Fault.Unknowns loAt _ (some .1) in
-    let low = passed (not (allWithin (r .lo) (r .n) (pos endMax))) Fault.Beyond loAt _ (few .1) in
-    let high = passed (not (allWithin (r .hi) (r .n) (pos endMax))) Fault.Beyond hiAt _ (low .1) in
-    let ordered = passed (not (allOrdered (r .lo) (r .hi) (r .n))) Fault.Crossed hiAt _ (high .1) in
+    let steps = done-next _ _ (done-next _ _ e) in
+    let low = fine-line _ _ (done-first _ _ (done-next _ _ steps)) in
+    let high = fine-line _ _ (done-next _ _ (done-next _ _ steps)) in
+    let n = count-fine (r .n) (fine-first _ _ low) in
     record {
-      number = ltb-false numberMax (r .number) (number .0);
-      steps = ltb-false stepsMax (r .steps) (steps .0);
-      some = let n = eqb-false (r .n) 0 (some .0) in omega arith;
-      few = ltb-false nMax (r .n) (few .0);
-      low = not-false _ (low .0);
-      high = not-false _ (high .0);
-      ordered = not-false _ (ordered .0);
+      number = leb-true (r .number) numberMax (unless-fine _ Fault.Beyond (fine-line _ _ (done-first _ _ e)));
+      steps = leb-true (r .steps) stepsMax (unless-fine _ Fault.Steps (fine-line _ _ (done-first _ _ steps)));
+      some = n .0;
+      few = n .1;
+      low = unless-fine _ Fault.Beyond (fine-next _ _ low);
+      high = unless-fine _ Fault.Beyond (fine-first _ _ high);
+      ordered = unless-fine _ Fault.Crossed (fine-next _ _ high);
     }
 
 pub unfaulted : (r : Result) → Sound r → checkResult r ≡ Status.Done
-unfolding checkResult
+unfolding checkResult resultLineStatus resultCheck countedCheck countCheck numberCheck stepsCheck lowCheck highCheck
 unfaulted r s =
-    rw (
-      le-ltb numberMax (r .number) (s .number),
-      le-ltb stepsMax (r .steps) (s .steps),
-      ne-eqb (r .n) 0 (λ e. omega (arith, s .some, e)),
-      le-ltb nMax (r .n) (s .few),
-      s .low,
-      s .high,
-      s .ordered,
-    )
+    both-done (line-fine _ (fine-unless Fault.Beyond (le-leb (r .number) numberMax (s .number))))
+    (both-done (line-fine _ refl)
+    (both-done (line-fine _ (fine-unless Fault.Steps (le-leb (r .steps) stepsMax (s .steps))))
+    (both-done (line-fine _ (both-fine
+    (both-fine (fine-unless Fault.Spelling (le-leb 1 (r .n) (s .some))) (fine-unless Fault.Unknowns (le-leb (r .n) nMax (s .few))))
+    (fine-unless Fault.Beyond (s .low))))
+    (line-fine _ (both-fine (fine-unless Fault.Beyond (s .high)) (fine-unless Fault.Crossed (s .ordered)))))))

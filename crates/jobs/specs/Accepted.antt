@@ -35,17 +35,17 @@ pub record GoodEquation (q : Equation) (n : ℕ) : Type 0 where
 
 -- equation or row i of the system, with its right side
 abbrev pub GoodSystem : Kind → Job → ℕ → Type 0
-GoodSystem Kind.Poly j i = GoodEquation (equationAt (j .eqs) i) (j .n)
-GoodSystem Kind.Linear j i = AllWithin (rowAt (j .rows) i) (j .n) entryMax × Within (getD (j .right) i (pos 0)) entryMax
-GoodSystem Kind.Eigen j i = AllWithin (rowAt (j .rows) i) (j .n) entryMax
+GoodSystem Kind.Poly j i = GoodEquation (equationAt (j .system .eqs) i) (j .head .n)
+GoodSystem Kind.Linear j i = AllWithin (rowAt (j .system .rows) i) (j .head .n) entryMax × Within (getD (j .system .right) i (pos 0)) entryMax
+GoodSystem Kind.Eigen j i = AllWithin (rowAt (j .system .rows) i) (j .head .n) entryMax
 
 pub record Accepted (j : Job) : Type 0 where
-  pub number : j .number ≤ numberMax
-  pub some : 1 ≤ j .n
-  pub few : j .n ≤ nMax
-  pub low : AllWithin (j .lo) (j .n) endMax
-  pub high : AllWithin (j .hi) (j .n) endMax
-  pub ordered : (i : ℕ) → i < j .n → getD (j .lo) i (pos 0) ≤ℤ getD (j .hi) i (pos 0)
-  pub inverse : (i : ℕ) → i < j .n → AllWithin (rowAt (j .inv) i) (j .n) entryMax
+  pub number : j .head .number ≤ numberMax
+  pub some : 1 ≤ j .head .n
+  pub few : j .head .n ≤ nMax
+  pub low : AllWithin (j .ends .lo) (j .head .n) endMax
+  pub high : AllWithin (j .ends .hi) (j .head .n) endMax
+  pub ordered : (i : ℕ) → i < j .head .n → getD (j .ends .lo) i (pos 0) ≤ℤ getD (j .ends .hi) i (pos 0)
+  pub inverse : (i : ℕ) → i < j .head .n → AllWithin (rowAt (j .inv) i) (j .head .n) entryMax
   pub steps : j .steps ≤ stepsMax
-  pub system : (i : ℕ) → i < j .n → GoodSystem (j .kind) j i
+  pub system : (i : ℕ) → i < j .head .n → GoodSystem (j .head .kind) j i

@@ -1,36 +1,43 @@
 -- The checks of a result's values. "Values handed over without text get the same checks in the same line order."
 use Prim.Native.Nat.{ℕ}
-use mathlib.Core.Bool.{cond, not}
-use lib.Dec.{eqb, ltb}
-use lib.IntN.{pos}
-use Rattle.sizes.specs.Sizes.{nMax, stepsMax, numberMax, endMax}
-use Rattle.jobs.specs.declared.Fault.{Fault}
+use mathlib.Core.List.{List}
+use lib.Dec.{leb}
+use lib.IntN.{ℤ}
+use Rattle.sizes.specs.Sizes.{nMax}
+use Rattle.faults.specs.Checks.{badUnless, firstOf, onLine, andThen}
+use Rattle.faults.specs.declared.Fault.{Fault}
+use Rattle.faults.specs.declared.Finding.{Finding}
+use Rattle.faults.specs.declared.Status.{Status}
 use Rattle.jobs.specs.declared.Result.{Result}
-use Rattle.jobs.specs.declared.Status.{Status}
-use Rattle.jobs.specs.Ranges.{allWithin, allOrdered}
+use Rattle.jobs.specs.declared.ResultLine.{ResultLine}
+use Rattle.jobs.specs.Lines.{resultNumber}
+use Rattle.jobs.specs.Checks.{numberCheck, stepsCheck, lowCheck, highCheck}
 
--- the order of a result's lines: job, verdict, steps, lo, hi
-abbrev pub numberAt : ℕ
-numberAt = 1
+-- "an empty list (n = 0 in values) is fault 2, one of over 4 numbers fault 3"
+unfoldable pub countCheck : ℕ → Finding
+countCheck n = firstOf (badUnless (leb 1 n) Fault.Spelling) (badUnless (leb n nMax) Fault.Unknowns)
 
-abbrev pub stepsAt : ℕ
-stepsAt = 3
+-- "the length of the `lo` list is n"
+unfoldable pub countedCheck : ℕ → List ℤ → Finding
+countedCheck n lo = firstOf (countCheck n) (lowCheck n lo)
 
-abbrev pub loAt : ℕ
-loAt = 4
+-- the verdict is one of four, so nothing can be wrong with its line
+unfoldable pub resultCheck : ResultLine → Result → Finding
+resultCheck ResultLine.Number r = numberCheck (r .number)
+resultCheck ResultLine.Verdict r = Finding.Fine
+resultCheck ResultLine.Steps r = stepsCheck (r .steps)
+resultCheck ResultLine.Lo r = countedCheck (r .n) (r .lo)
+resultCheck ResultLine.Hi r = highCheck (r .n) (r .lo) (r .hi)
+resultCheck ResultLine.End r = Finding.Fine
 
-abbrev pub hiAt : ℕ
-hiAt = 5
+unfoldable pub resultLineStatus : ResultLine → Result → Status
+resultLineStatus k r = onLine (resultCheck k r) (resultNumber k)
 
--- "Job number: 0 to 999,999,999"; "Steps: 0 to 1,000"; "an empty list (n = 0 in values) is fault 2, one of over 4 numbers fault 3";
--- "Box ends: -262,144 to 262,144"; "Fault 5 belongs to the `hi` line". Places past n are not looked at.
+-- "job, verdict, steps, lo, hi"
 unfoldable pub checkResult : Result → Status
 checkResult r =
-    cond (ltb numberMax (r .number)) (Status.Refused Fault.Beyond numberAt)
-    (cond (ltb stepsMax (r .steps)) (Status.Refused Fault.Steps stepsAt)
-    (cond (eqb (r .n) 0) (Status.Refused Fault.Spelling loAt)
-    (cond (ltb nMax (r .n)) (Status.Refused Fault.Unknowns loAt)
-    (cond (not (allWithin (r .lo) (r .n) (pos endMax))) (Status.Refused Fault.Beyond loAt)
-    (cond (not (allWithin (r .hi) (r .n) (pos endMax))) (Status.Refused Fault.Beyond hiAt)
-    (cond (not (allOrdered (r .lo) (r .hi) (r .n))) (Status.Refused Fault.Crossed hiAt)
-    Status.Done))))))
+    andThen (resultLineStatus ResultLine.Number r)
+    (andThen (resultLineStatus ResultLine.Verdict r)
+    (andThen (resultLineStatus ResultLine.Steps r)
+    (andThen (resultLineStatus ResultLine.Lo r)
+    (resultLineStatus ResultLine.Hi r))))

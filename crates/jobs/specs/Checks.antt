@@ -1,41 +1,27 @@
 -- The checks of a job's values. Document 01: "lines are taken in order and the first bad line decides; in one line 2 comes before the others,
 -- then 3, then 4, then 5 or 6", and "values handed over without text get the same checks in the same line order".
--- Each kind of line has a definition, which is told its number.
-use Prim.Native.Nat.{ℕ, zero, suc, _+_}
-use mathlib.Core.Bool.{Bool, true, false, _&&_}
+-- Each kind of line has its check, over values; the text's reader has the same.
+use Prim.Native.Nat.{ℕ}
+use mathlib.Core.Bool.{Bool, _&&_}
 use mathlib.Core.List.{List}
 use lib.Dec.{leb}
 use lib.ListN.{getD}
 use lib.IntN.{ℤ, pos}
 use Rattle.sizes.specs.Sizes.{nMax, stepsMax, numberMax, endMax, entryMax}
 use Rattle.lists.specs.Loops.{allB}
+use Rattle.faults.specs.Checks.{badUnless, firstOf, onLine, andThen, linesOf}
 use Rattle.jobs.specs.declared.Kind.{Kind}
 use Rattle.jobs.specs.declared.Equation.{Equation}
 use Rattle.jobs.specs.declared.Row.{Row}
 use Rattle.jobs.specs.declared.Job.{Job}
-use Rattle.jobs.specs.declared.Fault.{Fault}
-use Rattle.jobs.specs.declared.Status.{Status}
+use Rattle.jobs.specs.declared.JobLine.{JobLine}
+use Rattle.faults.specs.declared.Fault.{Fault}
+use Rattle.faults.specs.declared.Finding.{Finding}
+use Rattle.faults.specs.declared.Status.{Status}
+use Rattle.jobs.specs.Lines.{jobNumber}
 use Rattle.jobs.specs.Places.{equationAt, rowAt}
 use Rattle.jobs.specs.Ranges.{isWithin, allWithin, allOrdered}
 use Rattle.jobs.specs.Terms.{goodCoefs, goodTerms}
-
--- the first bad line decides
-unfoldable pub andThen : Status → Status → Status
-andThen Status.Done next = next
-andThen (Status.Refused f line) next = Status.Refused f line
-
-unfoldable pub refusedUnless : Bool → Fault → ℕ → Status
-refusedUnless true f line = Status.Done
-refusedUnless false f line = Status.Refused f line
-
-abbrev pub isBad : Status → Bool
-isBad Status.Done = false
-isBad (Status.Refused f line) = true
-
--- n lines one after another
-unfoldable pub linesOf : ℕ → (ℕ → Status) → Status
-linesOf zero f = Status.Done
-linesOf (suc n) f = andThen (linesOf n f) (f n)
 
 -- "n: 1 to 4"
 unfoldable pub goodUnknowns : ℕ → Bool
@@ -52,61 +38,80 @@ goodEntries xs n = allWithin xs n (pos entryMax)
 unfoldable pub goodMatrix : List Row → ℕ → Bool
 goodMatrix rows n = allB n (λ i. goodEntries (rowAt rows i) n)
 
+-- ---- what is found on each line
+
 -- "Job number: 0 to 999,999,999"
-unfoldable pub numberLine : ℕ → ℕ → Status
-numberLine line number = refusedUnless (leb number numberMax) Fault.Beyond line
+unfoldable pub numberCheck : ℕ → Finding
+numberCheck number = badUnless (leb number numberMax) Fault.Beyond
 
-unfoldable pub unknownsLine : ℕ → ℕ → Status
-unknownsLine line n = refusedUnless (goodUnknowns n) Fault.Unknowns line
+unfoldable pub unknownsCheck : ℕ → Finding
+unknownsCheck n = badUnless (goodUnknowns n) Fault.Unknowns
 
-unfoldable pub lowLine : ℕ → ℕ → List ℤ → Status
-lowLine line n lo = refusedUnless (goodEnds lo n) Fault.Beyond line
+unfoldable pub lowCheck : ℕ → List ℤ → Finding
+lowCheck n lo = badUnless (goodEnds lo n) Fault.Beyond
 
 -- "Fault 5 belongs to the `hi` line"
-unfoldable pub highLine : ℕ → ℕ → List ℤ → List ℤ → Status
-highLine line n lo hi = andThen (refusedUnless (goodEnds hi n) Fault.Beyond line) (refusedUnless (allOrdered lo hi n) Fault.Crossed line)
+unfoldable pub highCheck : ℕ → List ℤ → List ℤ → Finding
+highCheck n lo hi = firstOf (badUnless (goodEnds hi n) Fault.Beyond) (badUnless (allOrdered lo hi n) Fault.Crossed)
 
-unfoldable pub inverseLine : ℕ → ℕ → List Row → Status
-inverseLine line n inv = refusedUnless (goodMatrix inv n) Fault.Beyond line
+unfoldable pub inverseCheck : ℕ → List Row → Finding
+inverseCheck n inv = badUnless (goodMatrix inv n) Fault.Beyond
 
 -- "Steps: 0 to 1,000"
-unfoldable pub stepsLine : ℕ → ℕ → Status
-stepsLine line steps = refusedUnless (leb steps stepsMax) Fault.Steps line
+unfoldable pub stepsCheck : ℕ → Finding
+stepsCheck steps = badUnless (leb steps stepsMax) Fault.Steps
 
 -- an `eq` line of a polynomial job
-unfoldable pub equationLine : ℕ → ℕ → Equation → Status
-equationLine line n q = andThen (refusedUnless (goodCoefs q) Fault.Beyond line) (refusedUnless (goodTerms q n) Fault.Terms line)
+unfoldable pub equationCheck : ℕ → Equation → Finding
+equationCheck n q = firstOf (badUnless (goodCoefs q) Fault.Beyond) (badUnless (goodTerms q n) Fault.Terms)
 
 -- a `row` line of an eigenpair
-unfoldable pub rowLine : ℕ → ℕ → List ℤ → Status
-rowLine line n row = refusedUnless (goodEntries row n) Fault.Beyond line
+unfoldable pub rowCheck : ℕ → List ℤ → Finding
+rowCheck n row = badUnless (goodEntries row n) Fault.Beyond
 
 -- a `row` line of a linear job, "the right side last"
-unfoldable pub sidedLine : ℕ → ℕ → List ℤ → ℤ → Status
-sidedLine line n row right = andThen (rowLine line n row) (refusedUnless (isWithin right (pos entryMax)) Fault.Beyond line)
+unfoldable pub sidedCheck : ℕ → List ℤ → ℤ → Finding
+sidedCheck n row right = firstOf (rowCheck n row) (badUnless (isWithin right (pos entryMax)) Fault.Beyond)
 
 -- line i of the system
-unfoldable pub systemLine : Kind → ℕ → Job → ℕ → Status
-systemLine Kind.Poly line j i = equationLine line (j .n) (equationAt (j .eqs) i)
-systemLine Kind.Linear line j i = sidedLine line (j .n) (rowAt (j .rows) i) (getD (j .right) i (pos 0))
-systemLine Kind.Eigen line j i = rowLine line (j .n) (rowAt (j .rows) i)
+unfoldable pub systemCheck : Kind → Job → ℕ → Finding
+systemCheck Kind.Poly j i = equationCheck (j .head .n) (equationAt (j .system .eqs) i)
+systemCheck Kind.Linear j i = sidedCheck (j .head .n) (rowAt (j .system .rows) i) (getD (j .system .right) i (pos 0))
+systemCheck Kind.Eigen j i = rowCheck (j .head .n) (rowAt (j .system .rows) i)
+
+-- the kind is one of three, so nothing can be wrong with its line
+unfoldable pub lineCheck : JobLine → Job → Finding
+lineCheck JobLine.Number j = numberCheck (j .head .number)
+lineCheck JobLine.Kind j = Finding.Fine
+lineCheck JobLine.Unknowns j = unknownsCheck (j .head .n)
+lineCheck JobLine.Lo j = lowCheck (j .head .n) (j .ends .lo)
+lineCheck JobLine.Hi j = highCheck (j .head .n) (j .ends .lo) (j .ends .hi)
+lineCheck JobLine.Inv j = inverseCheck (j .head .n) (j .inv)
+lineCheck JobLine.Steps j = stepsCheck (j .steps)
+lineCheck (JobLine.System i) j = systemCheck (j .head .kind) j i
+lineCheck JobLine.End j = Finding.Fine
+
+-- ---- line after line
+
+unfoldable pub jobLineStatus : JobLine → Job → Status
+jobLineStatus k j = onLine (lineCheck k j) (jobNumber k (j .head))
+
+-- "Order: job, kind, n"
+unfoldable pub headLines : Job → Status
+headLines j = andThen (jobLineStatus JobLine.Number j) (andThen (jobLineStatus JobLine.Kind j) (jobLineStatus JobLine.Unknowns j))
 
 -- "then n lines"
-unfoldable pub systemLines : ℕ → Job → Status
-systemLines line j = linesOf (j .n) (λ i. systemLine (j .kind) (line + i) j i)
+unfoldable pub systemLines : Job → Status
+systemLines j = linesOf (j .head .n) (λ i. jobLineStatus (JobLine.System i) j)
 
--- "Order: job, kind, n": the kind is one of three, so nothing can be wrong with its line
-unfoldable pub headLines : Job → Status
-headLines j = andThen (numberLine 1 (j .number)) (unknownsLine 3 (j .n))
-
--- "lo, hi, inv, steps" and the system, where `lo` is the given line
-unfoldable pub bodyLines : ℕ → Job → Status
-bodyLines line j =
-    andThen (lowLine line (j .n) (j .lo))
-    (andThen (highLine (line + 1) (j .n) (j .lo) (j .hi))
-    (andThen (inverseLine (line + 2) (j .n) (j .inv))
-    (andThen (stepsLine (line + 3) (j .steps))
-    (systemLines (line + 4) j))))
+-- "lo, hi, inv, steps", and the system
+unfoldable pub bodyLines : Job → Status
+bodyLines j =
+    andThen (jobLineStatus JobLine.Lo j)
+    (andThen (jobLineStatus JobLine.Hi j)
+    (andThen (jobLineStatus JobLine.Inv j)
+    (andThen (jobLineStatus JobLine.Steps j)
+    (systemLines j))))
 
 unfoldable pub checkJob : Job → Status
-checkJob j = andThen (headLines j) (bodyLines 4 j)
+checkJob j = andThen (headLines j) (bodyLines j)

@@ -1,51 +1,64 @@
-// The checks of a result's values. "Values handed over without text get the same checks in the same line order."
-use crate::Fault;
+// The checks of a result's values, in the order of its text's lines. "Values handed over without text get the same checks in the same line order."
 use crate::Result;
-use crate::Status;
-use crate::ranges::all_ordered;
-use crate::ranges::all_within;
-use sizes::END;
+use crate::ResultLine;
+use crate::checks::high_check;
+use crate::checks::low_check;
+use crate::checks::number_check;
+use crate::checks::steps_check;
+use crate::lines::result_line_number;
+use faults::Fault;
+use faults::Finding;
+use faults::Status;
+use faults::and_then;
+use faults::bad_unless;
+use faults::first_of;
+use faults::is_bad;
+use faults::is_fine;
+use faults::on_line;
 use sizes::N;
-use sizes::NUMBER;
-use sizes::STEPS;
 ghost use mathlib.Core.Path.{_≡_};
-ghost use Rattle.jobs.specs.CheckResult.{checkResult};
+ghost use Rattle.faults.specs.Checks.{onLine};
+ghost use Rattle.jobs.specs.Lines.{resultNumber};
+ghost use Rattle.jobs.specs.CheckResult.{countCheck, countedCheck, checkResult};
 
-// The lines of a result text that can have a fault in its values.
-const NUMBER_LINE: u64 = 1;
+pub fn count_check(n: usize) -> Finding
+    ensures { λ r. ⌜ r ≡ countCheck n ⌝ }
+{
+    let some = bad_unless(1 <= n, Fault::Spelling);
+    let few = bad_unless(n <= N, Fault::Unknowns);
+    first_of(some, few)
+}
 
-const STEPS_LINE: u64 = 3;
+pub fn counted_check(n: usize, lo: [i64; N]) -> Finding
+    ensures { λ r. ⌜ r ≡ countedCheck n lo ⌝ }
+{
+    let count = count_check(n);
+    if is_fine(count) {
+        return low_check(n, lo);
+    }
+    count
+}
 
-const LO_LINE: u64 = 4;
+// What a line of this kind finds, with its number.
+fn numbered(f: Finding, k: ResultLine) -> Status
+    ensures { λ r. ⌜ r ≡ onLine f (resultNumber k) ⌝ }
+{
+    on_line(f, result_line_number(k))
+}
 
-const HI_LINE: u64 = 5;
-
+// The first fault of a result's values. Every value is taken.
 pub fn check_result(r: Result) -> Status
     ensures { λ s. ⌜ s ≡ checkResult r ⌝ }
 {
     let n = r.n;
     let lo = r.lo;
     let hi = r.hi;
-    if NUMBER < r.number {
-        return Status::Refused(Fault::Beyond, NUMBER_LINE);
+    let number = numbered(number_check(r.number), ResultLine::Number);
+    let steps = numbered(steps_check(r.steps), ResultLine::Steps);
+    let low = numbered(counted_check(n, lo), ResultLine::Lo);
+    let before = and_then(number, and_then(steps, low));
+    if is_bad(before) {
+        return before;
     }
-    if STEPS < r.steps {
-        return Status::Refused(Fault::Steps, STEPS_LINE);
-    }
-    if n == 0 {
-        return Status::Refused(Fault::Spelling, LO_LINE);
-    }
-    if N < n {
-        return Status::Refused(Fault::Unknowns, LO_LINE);
-    }
-    if !all_within(lo, n, END) {
-        return Status::Refused(Fault::Beyond, LO_LINE);
-    }
-    if !all_within(hi, n, END) {
-        return Status::Refused(Fault::Beyond, HI_LINE);
-    }
-    if !all_ordered(lo, hi, n) {
-        return Status::Refused(Fault::Crossed, HI_LINE);
-    }
-    Status::Done
+    numbered(high_check(n, lo, hi), ResultLine::Hi)
 }

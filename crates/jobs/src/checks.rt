@@ -1,53 +1,39 @@
 // The checks of a job's values, in the order of its text's lines. Places past n are not looked at.
 use crate::Equation;
-use crate::Fault;
+use crate::Head;
 use crate::Job;
+use crate::JobLine;
 use crate::Kind;
 use crate::Row;
-use crate::Status;
+use crate::lines::job_line_number;
 use crate::ranges::all_ordered;
 use crate::ranges::all_within;
 use crate::ranges::within;
 use crate::terms::good_coefs;
 use crate::terms::good_terms;
+use faults::Fault;
+use faults::Finding;
+use faults::Status;
+use faults::and_then;
+use faults::bad_unless;
+use faults::first_of;
+use faults::is_bad;
+use faults::on_line;
 use sizes::END;
 use sizes::ENTRY;
 use sizes::N;
 use sizes::NUMBER;
 use sizes::STEPS;
 ghost use mathlib.Core.Path.{_≡_};
-ghost use Prim.Native.Nat.{_+_, _≤_, _<_};
+ghost use Prim.Native.Nat.{_≤_, _<_};
 ghost use Rattle.sizes.specs.Sizes.{nMax, textMax};
-ghost use Rattle.jobs.specs.Checks.{isBad, andThen, refusedUnless, goodUnknowns, goodMatrix};
-ghost use Rattle.jobs.specs.Checks.{numberLine, unknownsLine, lowLine, highLine, inverseLine, stepsLine};
-ghost use Rattle.jobs.specs.Checks.{equationLine, rowLine, sidedLine, systemLine, systemLines, headLines, bodyLines, checkJob};
-
-pub fn is_bad(s: Status) -> bool
-    ensures { λ r. ⌜ r ≡ isBad s ⌝ }
-{
-    match s {
-        Status::Done => false,
-        Status::Refused(_, _) => true,
-    }
-}
-
-pub fn and_then(first: Status, next: Status) -> Status
-    ensures { λ r. ⌜ r ≡ andThen first next ⌝ }
-{
-    match first {
-        Status::Done => next,
-        Status::Refused(fault, line) => Status::Refused(fault, line),
-    }
-}
-
-pub fn refused_unless(good: bool, fault: Fault, line: u64) -> Status
-    ensures { λ r. ⌜ r ≡ refusedUnless good fault line ⌝ }
-{
-    if good {
-        return Status::Done;
-    }
-    Status::Refused(fault, line)
-}
+ghost use Rattle.faults.specs.Checks.{onLine};
+ghost use Rattle.jobs.specs.declared.JobLine.{JobLine};
+ghost use Rattle.jobs.specs.Lines.{jobNumber};
+ghost use Rattle.jobs.specs.Checks.{goodUnknowns, goodMatrix};
+ghost use Rattle.jobs.specs.Checks.{numberCheck, unknownsCheck, lowCheck, highCheck, inverseCheck, stepsCheck};
+ghost use Rattle.jobs.specs.Checks.{equationCheck, rowCheck, sidedCheck, systemCheck};
+ghost use Rattle.jobs.specs.Checks.{jobLineStatus, systemLines, headLines, bodyLines, checkJob};
 
 pub fn good_unknowns(n: usize) -> bool
     ensures { λ r. ⌜ r ≡ goodUnknowns n ⌝ }
@@ -72,104 +58,121 @@ pub fn good_matrix(rows: [Row; N], n: usize) -> bool
     true
 }
 
-pub fn number_line(line: u64, number: u64) -> Status
-    ensures { λ r. ⌜ r ≡ numberLine line number ⌝ }
+pub fn number_check(number: u64) -> Finding
+    ensures { λ r. ⌜ r ≡ numberCheck number ⌝ }
 {
-    refused_unless(number <= NUMBER, Fault::Beyond, line)
+    bad_unless(number <= NUMBER, Fault::Beyond)
 }
 
-pub fn unknowns_line(line: u64, n: usize) -> Status
-    ensures { λ r. ⌜ r ≡ unknownsLine line n ⌝ }
+pub fn unknowns_check(n: usize) -> Finding
+    ensures { λ r. ⌜ r ≡ unknownsCheck n ⌝ }
 {
-    refused_unless(good_unknowns(n), Fault::Unknowns, line)
+    bad_unless(good_unknowns(n), Fault::Unknowns)
 }
 
-pub fn low_line(line: u64, n: usize, lo: [i64; N]) -> Status
+pub fn low_check(n: usize, lo: [i64; N]) -> Finding
     requires { ⌜ n ≤ nMax ⌝ }
-    ensures { λ r. ⌜ r ≡ lowLine line n lo ⌝ }
+    ensures { λ r. ⌜ r ≡ lowCheck n lo ⌝ }
 {
-    refused_unless(all_within(lo, n, END), Fault::Beyond, line)
+    bad_unless(all_within(lo, n, END), Fault::Beyond)
 }
 
-pub fn high_line(line: u64, n: usize, lo: [i64; N], hi: [i64; N]) -> Status
+pub fn high_check(n: usize, lo: [i64; N], hi: [i64; N]) -> Finding
     requires { ⌜ n ≤ nMax ⌝ }
-    ensures { λ r. ⌜ r ≡ highLine line n lo hi ⌝ }
+    ensures { λ r. ⌜ r ≡ highCheck n lo hi ⌝ }
 {
-    let size = refused_unless(all_within(hi, n, END), Fault::Beyond, line);
-    let order = refused_unless(all_ordered(lo, hi, n), Fault::Crossed, line);
-    and_then(size, order)
+    let size = bad_unless(all_within(hi, n, END), Fault::Beyond);
+    let order = bad_unless(all_ordered(lo, hi, n), Fault::Crossed);
+    first_of(size, order)
 }
 
-pub fn inverse_line(line: u64, n: usize, inv: [Row; N]) -> Status
+pub fn inverse_check(n: usize, inv: [Row; N]) -> Finding
     requires { ⌜ n ≤ nMax ⌝ }
-    ensures { λ r. ⌜ r ≡ inverseLine line n inv ⌝ }
+    ensures { λ r. ⌜ r ≡ inverseCheck n inv ⌝ }
 {
-    refused_unless(good_matrix(inv, n), Fault::Beyond, line)
+    bad_unless(good_matrix(inv, n), Fault::Beyond)
 }
 
-pub fn steps_line(line: u64, steps: u64) -> Status
-    ensures { λ r. ⌜ r ≡ stepsLine line steps ⌝ }
+pub fn steps_check(steps: u64) -> Finding
+    ensures { λ r. ⌜ r ≡ stepsCheck steps ⌝ }
 {
-    refused_unless(steps <= STEPS, Fault::Steps, line)
+    bad_unless(steps <= STEPS, Fault::Steps)
 }
 
-pub fn equation_line(line: u64, n: usize, q: Equation) -> Status
+pub fn equation_check(n: usize, q: Equation) -> Finding
     requires { ⌜ n ≤ nMax ⌝ }
-    ensures { λ r. ⌜ r ≡ equationLine line n q ⌝ }
+    ensures { λ r. ⌜ r ≡ equationCheck n q ⌝ }
 {
-    let size = refused_unless(good_coefs(q), Fault::Beyond, line);
-    let shape = refused_unless(good_terms(q, n), Fault::Terms, line);
-    and_then(size, shape)
+    let size = bad_unless(good_coefs(q), Fault::Beyond);
+    let shape = bad_unless(good_terms(q, n), Fault::Terms);
+    first_of(size, shape)
 }
 
-pub fn row_line(line: u64, n: usize, row: [i64; N]) -> Status
+pub fn row_check(n: usize, row: [i64; N]) -> Finding
     requires { ⌜ n ≤ nMax ⌝ }
-    ensures { λ r. ⌜ r ≡ rowLine line n row ⌝ }
+    ensures { λ r. ⌜ r ≡ rowCheck n row ⌝ }
 {
-    refused_unless(all_within(row, n, ENTRY), Fault::Beyond, line)
+    bad_unless(all_within(row, n, ENTRY), Fault::Beyond)
 }
 
-pub fn sided_line(line: u64, n: usize, row: [i64; N], right: i64) -> Status
+pub fn sided_check(n: usize, row: [i64; N], right: i64) -> Finding
     requires { ⌜ n ≤ nMax ⌝ }
-    ensures { λ r. ⌜ r ≡ sidedLine line n row right ⌝ }
+    ensures { λ r. ⌜ r ≡ sidedCheck n row right ⌝ }
 {
-    let left = row_line(line, n, row);
-    let side = refused_unless(within(right, ENTRY), Fault::Beyond, line);
-    and_then(left, side)
+    let left = row_check(n, row);
+    let side = bad_unless(within(right, ENTRY), Fault::Beyond);
+    first_of(left, side)
 }
 
-fn system_line(line: u64, j: Job, i: usize) -> Status
-    requires { ⌜ (j .n ≤ nMax) × (i < j .n) ⌝ }
-    ensures { λ r. ⌜ r ≡ systemLine (j .kind) line j i ⌝ }
+fn system_check(j: Job, i: usize) -> Finding
+    requires { ⌜ (j .head .n ≤ nMax) × (i < j .head .n) ⌝ }
+    ensures { λ r. ⌜ r ≡ systemCheck (j .head .kind) j i ⌝ }
 {
-    let n = j.n;
-    let kind = j.kind;
+    let n = j.head.n;
+    let head = j.head;
+    let kind = head.kind;
+    let system = j.system;
     match kind {
         Kind::Poly => {
-            let q = j.eqs[i];
-            equation_line(line, n, q)
+            let q = system.eqs[i];
+            equation_check(n, q)
         }
         Kind::Linear => {
-            let row = j.rows[i];
+            let row = system.rows[i];
             let xs = row.at;
-            let right = j.right;
-            sided_line(line, n, xs, right[i])
+            let right = system.right;
+            sided_check(n, xs, right[i])
         }
         Kind::Eigen => {
-            let row = j.rows[i];
+            let row = system.rows[i];
             let xs = row.at;
-            row_line(line, n, xs)
+            row_check(n, xs)
         }
     }
 }
 
-fn system_lines(line: u64, j: Job) -> Status
-    requires { ⌜ (j .n ≤ nMax) × (line ≤ textMax) ⌝ }
-    ensures { λ r. ⌜ r ≡ systemLines line j ⌝ }
+// What a line of this kind finds, with its number.
+fn numbered(f: Finding, k: JobLine, head: Head) -> Status
+    requires { ⌜ jobNumber k head ≤ textMax ⌝ }
+    ensures { λ r. ⌜ r ≡ onLine f (jobNumber k head) ⌝ }
 {
-    let n = j.n;
+    on_line(f, job_line_number(k, head))
+}
+
+fn system_line(j: Job, i: usize) -> Status
+    requires { ⌜ (j .head .n ≤ nMax) × (i < j .head .n) ⌝ }
+    ensures { λ r. ⌜ r ≡ jobLineStatus (JobLine.System i) j ⌝ }
+{
+    numbered(system_check(j, i), JobLine::System(i), j.head)
+}
+
+fn system_lines(j: Job) -> Status
+    requires { ⌜ j .head .n ≤ nMax ⌝ }
+    ensures { λ r. ⌜ r ≡ systemLines j ⌝ }
+{
+    let n = j.head.n;
     for i in 0..n {
-        let s = system_line(line + i as u64, j, i);
+        let s = system_line(j, i);
         if is_bad(s) {
             return s;
         }
@@ -180,25 +183,26 @@ fn system_lines(line: u64, j: Job) -> Status
 fn head_lines(j: Job) -> Status
     ensures { λ r. ⌜ r ≡ headLines j ⌝ }
 {
-    let number = number_line(1, j.number);
-    let unknowns = unknowns_line(3, j.n);
+    let head = j.head;
+    let number = numbered(number_check(head.number), JobLine::Number, head);
+    let unknowns = numbered(unknowns_check(head.n), JobLine::Unknowns, head);
     and_then(number, unknowns)
 }
 
-// What follows the line `n`, where `lo` is the given line.
-fn body_lines(line: u64, j: Job) -> Status
-    requires { ⌜ (j .n ≤ nMax) × (line + 4 ≤ textMax) ⌝ }
-    ensures { λ r. ⌜ r ≡ bodyLines line j ⌝ }
+fn body_lines(j: Job) -> Status
+    requires { ⌜ j .head .n ≤ nMax ⌝ }
+    ensures { λ r. ⌜ r ≡ bodyLines j ⌝ }
 {
-    let n = j.n;
-    let lo = j.lo;
-    let hi = j.hi;
+    let head = j.head;
+    let n = head.n;
+    let lo = j.ends.lo;
+    let hi = j.ends.hi;
     let inv = j.inv;
-    let low = low_line(line, n, lo);
-    let high = high_line(line + 1, n, lo, hi);
-    let inverse = inverse_line(line + 2, n, inv);
-    let steps = steps_line(line + 3, j.steps);
-    let system = system_lines(line + 4, j);
+    let low = numbered(low_check(n, lo), JobLine::Lo, head);
+    let high = numbered(high_check(n, lo, hi), JobLine::Hi, head);
+    let inverse = numbered(inverse_check(n, inv), JobLine::Inv, head);
+    let steps = numbered(steps_check(j.steps), JobLine::Steps, head);
+    let system = system_lines(j);
     and_then(
         low,
         and_then(high, and_then(inverse, and_then(steps, system))),
@@ -213,5 +217,5 @@ pub fn check_job(j: Job) -> Status
     if is_bad(head) {
         return head;
     }
-    body_lines(4, j)
+    body_lines(j)
 }

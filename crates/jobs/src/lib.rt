@@ -1,6 +1,7 @@
-// The values that the solver takes and gives: a job, a result, a refusal. Places past n play no part on the way in and are zero on the way out.
+// The values that the solver takes and gives: a job, a result. Places past n play no part on the way in and are zero on the way out.
 pub mod check_result;
 pub mod checks;
+pub mod lines;
 pub mod ranges;
 pub mod terms;
 pub mod zero;
@@ -32,18 +33,45 @@ pub struct Row {
     pub at: [i64; N],
 }
 
-// A job. A polynomial one has its system in `eqs`, a linear one in `rows` and `right`, an eigenpair in `rows`.
-pub struct Job {
+// "job, kind, n"
+pub struct Head {
     pub number: u64,
     pub kind: Kind,
     pub n: usize,
+}
+
+// The starting box.
+pub struct Ends {
     pub lo: [i64; N],
     pub hi: [i64; N],
-    pub inv: [Row; N],
-    pub steps: u64,
+}
+
+// A polynomial job has its system in `eqs`, a linear one in `rows` and `right`, an eigenpair in `rows`.
+pub struct Body {
     pub eqs: [Equation; N],
     pub rows: [Row; N],
     pub right: [i64; N],
+}
+
+pub struct Job {
+    pub head: Head,
+    pub ends: Ends,
+    pub inv: [Row; N],
+    pub steps: u64,
+    pub system: Body,
+}
+
+// The kinds of lines of a job text, in their order; a line of the system with its place, from 0; End where no line is left.
+pub enum JobLine {
+    Number,
+    Kind,
+    Unknowns,
+    Lo,
+    Hi,
+    Inv,
+    Steps,
+    System(usize),
+    End,
 }
 
 pub enum Verdict {
@@ -63,20 +91,12 @@ pub struct Result {
     pub hi: [i64; N],
 }
 
-// The faults 1 to 8 of document 01's table, in its order.
-pub enum Fault {
-    LongText,
-    Spelling,
-    Unknowns,
-    Beyond,
-    Crossed,
-    Terms,
-    ShortBuffer,
+// The kinds of lines of a result text, in their order; End where no line is left.
+pub enum ResultLine {
+    Number,
+    Verdict,
     Steps,
-}
-
-// A fault carries its line, counted from 1, or 0 where no line carries it.
-pub enum Status {
-    Done,
-    Refused(Fault, u64),
+    Lo,
+    Hi,
+    End,
 }

@@ -1,9 +1,10 @@
 -- The laws of a question asked of every place below n.
-use mathlib.Core.Path.{_≡_, refl, ap, sym, _∙_}
+use mathlib.Core.Path.{_≡_, refl, ap, ap₂, sym, _∙_}
 use mathlib.Core.Bool.{Bool, true, false}
 use mathlib.Core.Logic.{⊎-elim}
 use Prim.Native.Nat.{ℕ, zero, suc, _+_, _<_, _≤_}
 use native.Mathlib.Nat.{not-suc-le-zero, le-of-suc-le-suc, le-antisymm, eq-or-lt-of-le}
+use native.Mathlib.Omega.{arith}
 use native.Mathlib.Numerals.{add-one}
 use Rattle.lists.specs.Loops.{both, allB}
 
@@ -48,3 +49,9 @@ module _ (p : ℕ → Bool) where
   all-each zero i l e = absurd (not-suc-le-zero l)
   all-each (suc n) i l e =
       ⊎-elim (λ q. ap p q ∙ both-snd (allB n p) (p n) e) (λ lt. all-each n i lt (both-fst (allB n p) (p n) e)) (eq-or-lt-of-le (le-of-suc-le-suc l))
+
+-- only what stands below n counts
+pub all-cong : (n : ℕ) (p q : ℕ → Bool) → ((i : ℕ) → i < n → p i ≡ q i) → allB n p ≡ allB n q
+unfolding allB
+all-cong zero p q h = refl
+all-cong (suc n) p q h = ap₂ both (all-cong n p q (λ i l. h i (omega arith))) (h n (omega arith))

@@ -4,7 +4,7 @@ use lib.IntN.{ℤ}
 use Rattle.sizes.specs.Sizes.{nMax, entryMax}
 use Rattle.sizes.specs.Bounds.{valueMax, slopeMax, zMax, bMax}
 use Rattle.integers.specs.Ranges.{Within}
-use Rattle.intervals.specs.Ranges.{InI}
+use Rattle.intervals.specs.Ranges.{InI, AroundZero}
 use Rattle.intervals.specs.declared.Interval.{Interval}
 
 pub record DIn (n : ℕ) (C : ℕ → ℕ → ℤ) (F : ℕ → Interval) : Type 0 where
@@ -21,3 +21,4 @@ pub record EIn (n : ℕ) (B : ℕ → ℕ → Interval) (Z : ℕ → Interval) :
   pub room : n ≤ nMax
   pub factors : (i k : ℕ) → i < n → k < n → InI bMax (B i k)
   pub sides : (k : ℕ) → k < n → InI zMax (Z k)
+  pub around : (k : ℕ) → k < n → AroundZero (Z k)

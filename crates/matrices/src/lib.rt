@@ -71,7 +71,7 @@ pub fn e_vector(b: [[Interval; N]; N], z: [Interval; N], n: usize) -> [Interval;
         let row = b[i];
         let mut sum = Interval { lo: 0, hi: 0 };
         for k in 0..n {
-            sum = intervals::add(sum, intervals::mul_wide(row[k], z[k]));
+            sum = intervals::add(sum, intervals::mul_around(row[k], z[k]));
         }
         e[i] = intervals::outward(sum);
     }

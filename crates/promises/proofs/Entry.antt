@@ -4,7 +4,7 @@ use Prim.Native.Nat.{ℕ, _≤_}
 use Rattle.sizes.specs.Sizes.{stepsMax}
 use Rattle.jobs.specs.declared.Kind.{Kind}
 use Rattle.jobs.specs.declared.Job.{Job}
-use Rattle.jobs.specs.declared.Status.{Status}
+use Rattle.faults.specs.declared.Status.{Status}
 use Rattle.jobs.specs.declared.Equation.{Equation}
 use Rattle.jobs.specs.Accepted.{GoodSystem, Accepted}
 use Rattle.jobs.proofs.AcceptedLaws.{done-check}
@@ -17,15 +17,15 @@ module _ (j : Job) (a : ℕ) where
   -- the allowance plays no part in the system
   allow-equation : (i : ℕ) → equationOf (allow a j) i ≡ equationOf j i
   unfolding equationOf
-  allow-equation i = by (j .kind)
+  allow-equation i = by (j .head .kind)
     where
       by : (k : Kind) → equationBy k (allow a j) i ≡ equationBy k j i
       by Kind.Poly = refl
       by Kind.Linear = refl
       by Kind.Eigen = refl
 
-  allow-good : (i : ℕ) → GoodSystem (j .kind) j i → GoodSystem (j .kind) (allow a j) i
-  allow-good i = by (j .kind)
+  allow-good : (i : ℕ) → GoodSystem (j .head .kind) j i → GoodSystem (j .head .kind) (allow a j) i
+  allow-good i = by (j .head .kind)
     where
       by : (k : Kind) → GoodSystem k j i → GoodSystem k (allow a j) i
       by Kind.Poly g = g
@@ -34,7 +34,7 @@ module _ (j : Job) (a : ℕ) where
 
   allow-outcome : outcomeOf (allow a j) ≡ jobRun j a
   unfolding outcomeOf startOf
-  allow-outcome = ap (λ (q : ℕ → Equation). runOf (j .n) q (inverseOf j) a 0 (startOf j)) (fun-ext allow-equation)
+  allow-outcome = ap (λ (q : ℕ → Equation). runOf (j .head .n) q (inverseOf j) a 0 (startOf j)) (fun-ext allow-equation)
 
   allow-accepted : Accepted j → a ≤ stepsMax → Accepted (allow a j)
   allow-accepted h l = record {

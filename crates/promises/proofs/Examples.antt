@@ -15,7 +15,9 @@ use Rattle.intervals.specs.Fraction.{In}
 use Rattle.intervals.specs.Interval.{addI, negI, sumI, scaleI, wideI, outI, mulI, midI, meetsI, insideI}
 use Rattle.matrices.specs.Products.{dotI, dOf, unitZ, entryB, bOf, eOf}
 use Rattle.jobs.specs.Ranges.{isWithin, allWithin, allOrdered}
-use Rattle.jobs.specs.Checks.{andThen, refusedUnless, linesOf, goodUnknowns, goodMatrix, numberLine, unknownsLine, lowLine, highLine, inverseLine, stepsLine, rowLine, sidedLine, systemLine, systemLines, headLines, bodyLines, checkJob}
+use Rattle.faults.specs.Checks.{badUnless, firstOf, onLine, andThen, linesOf}
+use Rattle.jobs.specs.Checks.{goodUnknowns, goodMatrix, numberCheck, unknownsCheck, lowCheck, highCheck, inverseCheck, stepsCheck}
+use Rattle.jobs.specs.Checks.{rowCheck, sidedCheck, systemCheck, lineCheck, jobLineStatus, systemLines, headLines, bodyLines, checkJob}
 use Rattle.systems.specs.Terms.{factorI, termOver, equationOver, lowered, termSlope, slopeOver}
 use Rattle.systems.specs.Fractions.{unitsOf}
 use Rattle.systems.specs.Kinds.{rowOf, unitE, linearEquation, equationOf}
@@ -26,7 +28,7 @@ use Rattle.run.specs.Job.{startOf}
 use Rattle.jobs.specs.declared.Kind.{Kind}
 use Rattle.jobs.specs.declared.Row.{Row}
 use Rattle.jobs.specs.declared.Job.{Job}
-use Rattle.jobs.specs.declared.Status.{Status}
+use Rattle.faults.specs.declared.Status.{Status}
 use Rattle.jobs.specs.declared.Verdict.{Verdict}
 use Rattle.promises.specs.Claims.{Point, Lies, Same}
 use Rattle.promises.specs.Jobs.{jobRun, SolvesLinear}
@@ -38,21 +40,16 @@ holding numbers = record { at = numbers }
 -- "T11 linear, rows 131072,0,65536 and 0,262144,65536, inverse 32768,0,0,16384, box [-65536,65536] twice"
 abbrev job11 : Job
 job11 = record {
-  number = 11;
-  kind = Kind.Linear;
-  n = 2;
-  lo = negsuc 65535 ∷ negsuc 65535 ∷ [];
-  hi = pos 65536 ∷ pos 65536 ∷ [];
+  head = record { number = 11; kind = Kind.Linear; n = 2 };
+  ends = record { lo = negsuc 65535 ∷ negsuc 65535 ∷ []; hi = pos 65536 ∷ pos 65536 ∷ [] };
   inv = holding (pos 32768 ∷ pos 0 ∷ []) ∷ holding (pos 0 ∷ pos 16384 ∷ []) ∷ [];
   steps = 1;
-  eqs = [];
-  rows = holding (pos 131072 ∷ pos 0 ∷ []) ∷ holding (pos 0 ∷ pos 262144 ∷ []) ∷ [];
-  right = pos 65536 ∷ pos 65536 ∷ [];
+  system = record { eqs = []; rows = holding (pos 131072 ∷ pos 0 ∷ []) ∷ holding (pos 0 ∷ pos 262144 ∷ []) ∷ []; right = pos 65536 ∷ pos 65536 ∷ [] };
 }
 
 pub accepted : checkJob job11 ≡ Status.Done
-unfolding checkJob headLines bodyLines numberLine unknownsLine goodUnknowns lowLine highLine inverseLine goodMatrix stepsLine systemLines linesOf systemLine
-    sidedLine rowLine refusedUnless andThen allWithin isWithin allOrdered allB
+unfolding checkJob headLines bodyLines numberCheck unknownsCheck goodUnknowns lowCheck highCheck inverseCheck goodMatrix stepsCheck systemLines linesOf systemCheck lineCheck jobLineStatus
+    sidedCheck rowCheck badUnless firstOf onLine andThen allWithin isWithin allOrdered allB
 accepted = refl
 
 -- "unique, 1"
@@ -69,7 +66,7 @@ solution : SolvesLinear job11 point11
 unfolding sumTo
 solution = record { each = line }
   where
-    line : (i : ℕ) → i < 2 → sumTo 2 (λ k. rowOf job11 i k *ℤ point11 .num k) ≡ numberAt (job11 .right) i *ℤ unitsOf (pos 1)
+    line : (i : ℕ) → i < 2 → sumTo 2 (λ k. rowOf job11 i k *ℤ point11 .num k) ≡ numberAt (job11 .system .right) i *ℤ unitsOf (pos 1)
     line zero l = refl
     line (suc zero) l = refl
     line (suc (suc i)) l = absurd (omega arith)

@@ -27,16 +27,16 @@ use Rattle.promises.specs.Claims.{Point, Zero, Ordered, System}
 use Rattle.promises.specs.Jobs.{Solves, SolvesLinear, Eigenpair}
 
 module _ (j : Job) (a : Accepted j) where
-  pub given-degrees : (i : ℕ) → i < j .n → j .kind ≡ Kind.Poly → DegreesIn (j .n) (equationBy Kind.Poly j i)
+  pub given-degrees : (i : ℕ) → i < j .head .n → j .head .kind ≡ Kind.Poly → DegreesIn (j .head .n) (equationBy Kind.Poly j i)
   given-degrees i l e = let good : GoodSystem Kind.Poly j i = rw e at (a .system i l) in record { each = good .deg }
 
-  pub start-order : Ordered (j .n) (sideAt (startOf j))
+  pub start-order : Ordered (j .head .n) (sideAt (startOf j))
   unfolding startOf
-  start-order k l = rw (side-made (j .n) (a .few) (startSide j) refl k l) (a .ordered k l)
+  start-order k l = rw (side-made (j .head .n) (a .few) (startSide j) refl k l) (a .ordered k l)
 
   abbrev pub systemOf : System
   systemOf = record {
-    n = j .n;
+    n = j .head .n;
     room = a .few;
     equations = equationOf j;
     degrees = λ i l. equation-degrees j (a .few) i l (given-degrees i l);
@@ -45,7 +45,7 @@ module _ (j : Job) (a : Accepted j) where
     order = start-order;
   }
 
-  pub solves-zero : {p : Point} → Solves j p → Zero (j .n) (equationOf j) p
+  pub solves-zero : {p : Point} → Solves j p → Zero (j .head .n) (equationOf j) p
   solves-zero {p} s = record { each = λ i l. equation-is j (a .few) i l (p .num) (p .den) ∙ s .each i l }
 
 -- ---- a formula is 0 exactly where its two sides are equal
@@ -63,18 +63,18 @@ no-difference x y {w} p = (apart, meet)
     meet e = rw e (ring (y ∷ w ∷ []) (λ y w. (y ⊖ y) ⊗ w) (λ y w. lit (pos 0)) refl)
 
 module _ (j : Job) {p : Point} (den : pos 0 <ℤ p .den) where
-  pub linear-zeros : j .kind ≡ Kind.Linear → Solves j p ↔ SolvesLinear j p
+  pub linear-zeros : j .head .kind ≡ Kind.Linear → Solves j p ↔ SolvesLinear j p
   unfolding formulaNum linearNum
   linear-zeros e = (
     λ s. record { each = λ i l. both i .0 (rw e at (s .each i l)) },
     λ s. record { each = λ i l. rw e (both i .1 (s .each i l)) },
   )
     where
-      both : (i : ℕ) → (linearNum (j .n) (rowOf j i) (numberAt (j .right) i) (p .num) (p .den) ≡ pos 0)
-          ↔ (sumTo (j .n) (λ k. rowOf j i k *ℤ p .num k) ≡ numberAt (j .right) i *ℤ unitsOf (p .den))
+      both : (i : ℕ) → (linearNum (j .head .n) (rowOf j i) (numberAt (j .system .right) i) (p .num) (p .den) ≡ pos 0)
+          ↔ (sumTo (j .head .n) (λ k. rowOf j i k *ℤ p .num k) ≡ numberAt (j .system .right) i *ℤ unitsOf (p .den))
       both i = unfold linearNum in (no-difference _ _ (power-pos (degreeMax - 1) (units-pos den)))
 
-  pub eigen-zeros : j .kind ≡ Kind.Eigen → Solves j p ↔ Eigenpair j p
+  pub eigen-zeros : j .head .kind ≡ Kind.Eigen → Solves j p ↔ Eigenpair j p
   unfolding formulaNum eigenNum
   eigen-zeros e = (
     λ s. record { each = λ i l. both i .0 (rw e at (s .each i l)) },
@@ -84,6 +84,6 @@ module _ (j : Job) {p : Point} (den : pos 0 <ℤ p .den) where
       x : ℕ → ℤ
       x = coordinate (pinned j) (p .num) (p .den)
 
-      both : (i : ℕ) → (eigenNum (j .n) (pinned j) (rowOf j i) i (p .num) (p .den) ≡ pos 0)
-          ↔ (sumTo (j .n) (λ k. rowOf j i k *ℤ x k) *ℤ unitsOf (p .den) ≡ pos mark *ℤ (p .num (pinned j) *ℤ x i))
+      both : (i : ℕ) → (eigenNum (j .head .n) (pinned j) (rowOf j i) i (p .num) (p .den) ≡ pos 0)
+          ↔ (sumTo (j .head .n) (λ k. rowOf j i k *ℤ x k) *ℤ unitsOf (p .den) ≡ pos mark *ℤ (p .num (pinned j) *ℤ x i))
       both i = unfold eigenNum in (no-difference _ _ (power-pos (degreeMax - 2) (units-pos den)))

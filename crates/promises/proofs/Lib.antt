@@ -8,6 +8,7 @@ pub mod Answers
 pub mod Promises
 pub mod Jobs
 pub mod Entry
+pub mod Results
 pub mod Demand3
 pub mod Demand2
 pub mod Examples

@@ -10,40 +10,30 @@ use Rattle.systems.specs.Kinds.{pinned, rowOf, equationOf}
 use Rattle.systems.specs.Formulas.{coordinate, formulaNum}
 use Rattle.run.specs.Run.{runOf}
 use Rattle.run.specs.Job.{startOf, inverseOf}
+use Rattle.jobs.specs.Parts.{withSteps}
 use Rattle.jobs.specs.declared.Job.{Job}
 use Rattle.run.specs.declared.Outcome.{Outcome}
 use Rattle.promises.specs.Claims.{Point}
 
 -- the job with another step allowance
 abbrev pub allow : ℕ → Job → Job
-allow allowance j = record {
-  number = j .number;
-  kind = j .kind;
-  n = j .n;
-  lo = j .lo;
-  hi = j .hi;
-  inv = j .inv;
-  steps = allowance;
-  eqs = j .eqs;
-  rows = j .rows;
-  right = j .right;
-}
+allow allowance j = withSteps j allowance
 
 -- the job's run with an allowance
 abbrev pub jobRun : Job → ℕ → Outcome
-jobRun j allowance = runOf (j .n) (equationOf j) (inverseOf j) allowance 0 (startOf j)
+jobRun j allowance = runOf (j .head .n) (equationOf j) (inverseOf j) allowance 0 (startOf j)
 
 -- the point is a zero of the job: the formula of each equation is 0 there
 pub record Solves (j : Job) (p : Point) : Type 0 where
-  pub each : (i : ℕ) → i < j .n → formulaNum j i (p .num) (p .den) ≡ pos 0
+  pub each : (i : ℕ) → i < j .head .n → formulaNum j i (p .num) (p .den) ≡ pos 0
 
 -- "a linear one (A x = b)": row i times x is b(i). Unknown k is p k over 65,536 den.
 pub record SolvesLinear (j : Job) (p : Point) : Type 0 where
-  pub each : (i : ℕ) → i < j .n → sumTo (j .n) (λ k. rowOf j i k *ℤ p .num k) ≡ numberAt (j .right) i *ℤ unitsOf (p .den)
+  pub each : (i : ℕ) → i < j .head .n → sumTo (j .head .n) (λ k. rowOf j i k *ℤ p .num k) ≡ numberAt (j .system .right) i *ℤ unitsOf (p .den)
 
 -- "an eigenpair of a matrix", A x = L x, "the last coordinate of the vector is set to 1" and unknown n is L: row i times x is L x(i). In marks L x(i) is 65,536
 -- times what it is in units.
 pub record Eigenpair (j : Job) (p : Point) : Type 0 where
-  pub each : (i : ℕ) → i < j .n
-      → sumTo (j .n) (λ k. rowOf j i k *ℤ coordinate (pinned j) (p .num) (p .den) k) *ℤ unitsOf (p .den)
+  pub each : (i : ℕ) → i < j .head .n
+      → sumTo (j .head .n) (λ k. rowOf j i k *ℤ coordinate (pinned j) (p .num) (p .den) k) *ℤ unitsOf (p .den)
       ≡ pos mark *ℤ (p .num (pinned j) *ℤ coordinate (pinned j) (p .num) (p .den) i)

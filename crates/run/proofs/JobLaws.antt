@@ -25,9 +25,9 @@ use Rattle.intervals.specs.declared.Interval.{Interval}
 use Rattle.jobs.specs.declared.Kind.{Kind}
 use Rattle.jobs.specs.declared.Equation.{Equation}
 use Rattle.jobs.specs.declared.Job.{Job}
-use Rattle.jobs.specs.declared.Fault.{Fault}
+use Rattle.faults.specs.declared.Fault.{Fault}
 use Rattle.jobs.specs.declared.Result.{Result}
-use Rattle.jobs.specs.declared.Status.{Status}
+use Rattle.faults.specs.declared.Status.{Status}
 use Rattle.run.specs.declared.Decision.{Decision}
 use Rattle.run.specs.declared.Outcome.{Outcome}
 use Rattle.run.specs.Step.{middleOf, slopeOf, imageOf}
@@ -43,18 +43,18 @@ equation-in n q g = record { count = g .few; each = λ t l. record { coef = g .s
 
 module _ {j : Job} (a : Accepted j) where
   pub job-in : JobIn j
-  job-in = record { some = a .some; places = a .few; parts = by (j .kind) (a .system) }
+  job-in = record { some = a .some; places = a .few; parts = by (j .head .kind) (a .system) }
     where
-      by : (k : Kind) → ((i : ℕ) → i < j .n → GoodSystem k j i) → PartsIn k j
-      by Kind.Poly g = record { each = λ i l. equation-in (j .n) (equationAt (j .eqs) i) (g i l) }
+      by : (k : Kind) → ((i : ℕ) → i < j .head .n → GoodSystem k j i) → PartsIn k j
+      by Kind.Poly g = record { each = λ i l. equation-in (j .head .n) (equationAt (j .system .eqs) i) (g i l) }
       by Kind.Linear g = (λ i l. record { places = a .few; each = g i l .0 }, record { places = a .few; each = λ i l. g i l .1 })
       by Kind.Eigen g = λ i l. record { places = a .few; each = g i l }
 
-  start-in : BoxIn (j .n) (sideAt (startOf j))
+  start-in : BoxIn (j .head .n) (sideAt (startOf j))
   unfolding startOf
-  start-in = record { places = a .few; each = λ k l. rw (side-made (j .n) (a .few) (startSide j) refl k l) (side k l) }
+  start-in = record { places = a .few; each = λ k l. rw (side-made (j .head .n) (a .few) (startSide j) refl k l) (side k l) }
     where
-      side : (k : ℕ) → k < j .n → InI endMax (startSide j k)
+      side : (k : ℕ) → k < j .head .n → InI endMax (startSide j k)
       side k l = record { order = a .ordered k l; low = a .low k l; high = a .high k l }
 
 -- only the live equations and entries of the inverse count
@@ -82,23 +82,23 @@ module _ (n : ℕ) {q r : ℕ → Equation} {C D : ℕ → ℕ → ℤ}
 
 -- the code's lists of an accepted job
 module _ (j : Job) (done : checkJob j ≡ Status.Done) {eqs : List Equation} {c : List (List ℤ)} {x : List Interval}
-    (made-eqs : eqs ≡ equationsOf j) (made-c : c ≡ tab nMax (j .n) (replicate nMax (pos 0)) (rowAt (j .inv))) (made-x : x ≡ startOf j) where
-  entry-at : (i k : ℕ) → i < j .n → entryAt c i k ≡ inverseOf j i k
+    (made-eqs : eqs ≡ equationsOf j) (made-c : c ≡ tab nMax (j .head .n) (replicate nMax (pos 0)) (rowAt (j .inv))) (made-x : x ≡ startOf j) where
+  entry-at : (i k : ℕ) → i < j .head .n → entryAt c i k ≡ inverseOf j i k
   entry-at i k l =
-      let row = getD-tab (replicate nMax (pos 0)) nMax (j .n) (rowAt (j .inv)) [] i l (check-done j done .few) in
+      let row = getD-tab (replicate nMax (pos 0)) nMax (j .head .n) (rowAt (j .inv)) [] i l (check-done j done .few) in
       rw made-c (ap (λ (row : List ℤ). numberAt row k) row)
 
-  pub step-in : StepIn (j .n) (equationAt eqs) (entryAt c) (sideAt x)
+  pub step-in : StepIn (j .head .n) (equationAt eqs) (entryAt c) (sideAt x)
   step-in = record {
     system = rw made-eqs (equations-in (job-in (check-done j done)));
     inverse = record { each = λ i k l m. rw (entry-at i k l) (check-done j done .inverse i l k m) };
     box = rw made-x (start-in (check-done j done));
   }
 
-  pub outcome-made : runOf (j .n) (equationAt eqs) (entryAt c) (j .steps) 0 x ≡ outcomeOf j
+  pub outcome-made : runOf (j .head .n) (equationAt eqs) (entryAt c) (j .steps) 0 x ≡ outcomeOf j
   unfolding outcomeOf
   outcome-made =
-      rw made-x (run-cong (j .n) (λ i l. rw made-eqs (equations-at j (check-done j done .few) i l)) (λ i k l _. entry-at i k l) (j .steps) 0 (startOf j))
+      rw made-x (run-cong (j .head .n) (λ i l. rw made-eqs (equations-at j (check-done j done .few) i l)) (λ i k l _. entry-at i k l) (j .steps) 0 (startOf j))
 
 -- the two answers of a run
 module _ (j : Job) {r : Result} where

@@ -1,4 +1,5 @@
 pub mod Live
+pub mod Parts
 pub mod Image
 pub mod Keep
 pub mod Pass

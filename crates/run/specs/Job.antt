@@ -12,17 +12,17 @@ use Rattle.jobs.specs.Zero.{noResult}
 use Rattle.intervals.specs.declared.Interval.{Interval}
 use Rattle.jobs.specs.declared.Job.{Job}
 use Rattle.jobs.specs.declared.Result.{Result}
-use Rattle.jobs.specs.declared.Status.{Status}
+use Rattle.faults.specs.declared.Status.{Status}
 use Rattle.run.specs.declared.Outcome.{Outcome}
 use Rattle.run.specs.declared.Answer.{Answer}
 use Rattle.run.specs.Run.{runOf}
 
 -- "a starting box": the side of unknown k, and all of them
 abbrev pub startSide : Job → ℕ → Interval
-startSide j k = record { lo = numberAt (j .lo) k; hi = numberAt (j .hi) k }
+startSide j k = record { lo = numberAt (j .ends .lo) k; hi = numberAt (j .ends .hi) k }
 
 unfoldable pub startOf : Job → List Interval
-startOf j = vectorOf (j .n) (startSide j)
+startOf j = vectorOf (j .head .n) (startSide j)
 
 -- "a proposed inverse"
 abbrev pub inverseOf : Job → ℕ → ℕ → ℤ
@@ -30,7 +30,7 @@ inverseOf j i = numberAt (rowAt (j .inv) i)
 
 -- "and a step allowance"
 unfoldable pub outcomeOf : Job → Outcome
-outcomeOf j = runOf (j .n) (equationOf j) (inverseOf j) (j .steps) 0 (startOf j)
+outcomeOf j = runOf (j .head .n) (equationOf j) (inverseOf j) (j .steps) 0 (startOf j)
 
 -- the ends of a box; "every result leave[s] them zero", the places past n
 abbrev pub lowEnds : ℕ → List Interval → List ℤ
@@ -42,12 +42,12 @@ highEnds n x = tab nMax n (pos 0) (λ k. sideAt x k .hi)
 -- "The answer is a box, a verdict and the number of steps done."
 unfoldable pub resultOf : Job → Outcome → Result
 resultOf j o = record {
-  number = j .number;
+  number = j .head .number;
   verdict = o .verdict;
   steps = o .steps;
-  n = j .n;
-  lo = lowEnds (j .n) (o .sides);
-  hi = highEnds (j .n) (o .sides);
+  n = j .head .n;
+  lo = lowEnds (j .head .n) (o .sides);
+  hi = highEnds (j .head .n) (o .sides);
 }
 
 abbrev pub answerBy : Status → Job → Answer

@@ -3,8 +3,9 @@ use Prim.Native.Nat.{ℕ, _<_, _≤_}
 use lib.IntN.{ℤ}
 use Rattle.sizes.specs.Sizes.{nMax, endMax, entryMax}
 use Rattle.integers.specs.Ranges.{Within}
-use Rattle.intervals.specs.Ranges.{InI}
-use Rattle.sizes.specs.Bounds.{dMax, eMax}
+use Rattle.intervals.specs.Ranges.{InI, AroundZero}
+use Rattle.intervals.specs.Interval.{addI, negI}
+use Rattle.sizes.specs.Bounds.{valueMax, slopeMax, dMax, eMax}
 use Rattle.systems.specs.Ranges.{BoxIn, SystemIn}
 use Rattle.intervals.specs.declared.Interval.{Interval}
 use Rattle.jobs.specs.declared.Equation.{Equation}
@@ -18,6 +19,15 @@ pub record StepIn (n : ℕ) (q : ℕ → Equation) (C : ℕ → ℕ → ℤ) (X 
   pub system : SystemIn n q
   pub inverse : InverseIn n C
   pub box : BoxIn n X
+
+-- what the image takes: the box, its middles, F and S
+pub record ImageIn (n : ℕ) (C : ℕ → ℕ → ℤ) (X M F : ℕ → Interval) (S : ℕ → ℕ → Interval) : Type 0 where
+  pub inverse : InverseIn n C
+  pub box : BoxIn n X
+  pub middles : BoxIn n M
+  pub around : (k : ℕ) → k < n → AroundZero (addI (X k) (negI (M k)))
+  pub values : (k : ℕ) → k < n → InI valueMax (F k)
+  pub slopes : (i j : ℕ) → i < n → j < n → InI slopeMax (S i j)
 
 -- the parts of K = m - D + E
 pub record JoinIn (n : ℕ) (M D E : ℕ → Interval) : Type 0 where

@@ -11,7 +11,11 @@ use Rattle.jobs.specs.declared.Equation.{Equation}
 abbrev pub middleOf : (ℕ → Interval) → ℕ → ℤ
 middleOf X k = midI (X k)
 
--- "5. Z = X - m."
+-- "3. D = C F", "4. B = I - C S", "5. Z = X - m. E = B Z", "6. Image K = m - D + E, ends exact", of the box M = [m, m], F and S
+abbrev pub imageFrom : ℕ → (ℕ → ℕ → ℤ) → (ℕ → Interval) → (ℕ → Interval) → (ℕ → Interval) → (ℕ → ℕ → Interval) → ℕ → Interval
+imageFrom n C X M F S i = addI (addI (M i) (negI (dOf n C F i))) (eOf n (bOf n C S) (λ k. addI (X k) (negI (M k))) i)
+
+-- "Z = X - m."
 abbrev pub offsetOf : (ℕ → Interval) → ℕ → Interval
 offsetOf X k = addI (X k) (negI (pointI (middleOf X k)))
 
@@ -24,6 +28,5 @@ module _ (n : ℕ) (q : ℕ → Equation) (C : ℕ → ℕ → ℤ) (X : ℕ →
   abbrev pub slopeOf : ℕ → ℕ → Interval
   slopeOf i j = slopeOver n (q i) j X
 
-  -- "3. D = C F", "4. B = I - C S", "5. .. E = B Z", "6. Image K = m - D + E, ends exact."
   unfoldable pub imageOf : ℕ → Interval
-  imageOf i = addI (addI (pointI (middleOf X i)) (negI (dOf n C valueOf i))) (eOf n (bOf n C slopeOf) (offsetOf X) i)
+  imageOf i = imageFrom n C X (λ k. pointI (middleOf X k)) valueOf slopeOf i

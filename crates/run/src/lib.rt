@@ -2,19 +2,21 @@
 pub mod step;
 pub mod values;
 
+use faults::Status;
 use intervals::Interval;
 use jobs::Equation;
 use jobs::Job;
 use jobs::Result;
-use jobs::Status;
 use jobs::Verdict;
 use jobs::zero::no_result;
 use sizes::N;
 ghost use mathlib.Core.Path.{_≡_};
+ghost use Prim.Native.Nat.{_≤_};
+ghost use Rattle.sizes.specs.Sizes.{nMax};
 ghost use Rattle.intervals.specs.Places.{entryAt, sideAt};
 ghost use Rattle.jobs.specs.Places.{equationAt};
 ghost use Rattle.jobs.specs.Checks.{checkJob};
-ghost use Rattle.jobs.specs.declared.Status.{Status};
+ghost use Rattle.faults.specs.declared.Status.{Status};
 ghost use Rattle.run.specs.Run.{outcome, runOf};
 ghost use Rattle.run.specs.Job.{outcomeOf, resultOf, runJob};
 ghost use Rattle.run.specs.Ranges.{StepIn};
@@ -56,6 +58,7 @@ fn ended(verdict: Verdict, steps: u64, sides: [Interval; N]) -> Outcome
 }
 
 // At most `allowance` steps from the box `start` on. Every step begun is counted, the deciding one too.
+// F and S are made here, since a function that is handed the equations copies all of them at each step.
 pub fn run_steps(
     eqs: [Equation; N],
     c: [[i64; N]; N],
@@ -68,7 +71,15 @@ pub fn run_steps(
 {
     let mut x = start;
     for done in 0..allowance {
-        let k = step::image(eqs, c, x, n);
+        let m = step::middles(x, n);
+        let mut f = [Interval { lo: 0, hi: 0 }; N];
+        let mut s = [[Interval { lo: 0, hi: 0 }; N]; N];
+        for i in 0..n {
+            let q = eqs[i];
+            f[i] = systems::equation_over(q, m, n);
+            s[i] = systems::slope_row(q, x, n);
+        }
+        let k = step::image(c, x, m, f, s, n);
         let d = step::decide(x, k, n);
         let what = d.what;
         let next = d.sides;
@@ -83,17 +94,29 @@ pub fn run_steps(
     ended(Verdict::Spent, allowance, x)
 }
 
-// The result of a job whose values are right.
-fn accepted(j: Job) -> Result
+// n itself. Where the compiler sees that a count is from 1 to N, it unrolls the loops that go so far.
+fn bounded(n: usize) -> usize
+    requires { ⌜ (1 ≤ n) × (n ≤ nMax) ⌝ }
+    ensures { λ r. ⌜ r ≡ n ⌝ }
+{
+    if n < 2 {
+        return 1;
+    }
+    if n < N { n } else { N }
+}
+
+// The run of a job whose check found nothing.
+pub fn accepted(j: Job) -> Result
     requires { ⌜ checkJob j ≡ Status.Done ⌝ }
     ensures { λ r. ⌜ r ≡ resultOf j (outcomeOf j) ⌝ }
 {
-    let n = j.n;
+    let n = j.head.n;
     let inv = j.inv;
     let eqs = systems::equations(j);
     let c = values::matrix(inv, n);
     let x = values::start_box(j);
-    let o = run_steps(eqs, c, x, n, j.steps);
+    let few = bounded(n);
+    let o = run_steps(eqs, c, x, few, j.steps);
     values::result_of(j, o)
 }
 

@@ -2,20 +2,17 @@
 use crate::Decision;
 use crate::Move;
 use intervals::Interval;
-use jobs::Equation;
 use sizes::N;
 ghost use mathlib.Core.Path.{_≡_};
 ghost use Prim.Native.Nat.{_≤_};
 ghost use Rattle.sizes.specs.Sizes.{nMax};
 ghost use Rattle.lists.specs.Loops.{both};
 ghost use Rattle.intervals.specs.Interval.{pointI, addI, negI};
-ghost use Rattle.intervals.specs.Places.{entryAt, sideAt, vectorOf};
-ghost use Rattle.jobs.specs.Places.{equationAt};
+ghost use Rattle.intervals.specs.Places.{entryAt, sideAt, cellAt, vectorOf};
 ghost use Rattle.systems.specs.Ranges.{BoxIn};
-ghost use Rattle.run.specs.Step.{middleOf};
+ghost use Rattle.run.specs.Step.{middleOf, imageFrom};
 ghost use Rattle.run.specs.Decide.{decideOf};
-ghost use Rattle.run.specs.Run.{imageBox};
-ghost use Rattle.run.specs.Ranges.{StepIn, JoinIn};
+ghost use Rattle.run.specs.Ranges.{ImageIn, JoinIn};
 
 // m, as the box [m, m].
 pub fn middles(x: [Interval; N], n: usize) -> [Interval; N]
@@ -55,14 +52,18 @@ pub fn joined(m: [Interval; N], d: [Interval; N], e: [Interval; N], n: usize) ->
     k
 }
 
-// The image K of the box x, with the inverse c.
-pub fn image(eqs: [Equation; N], c: [[i64; N]; N], x: [Interval; N], n: usize) -> [Interval; N]
-    requires { ⌜ StepIn n (equationAt eqs) (entryAt c) (sideAt x) ⌝ }
-    ensures { λ r. ⌜ r ≡ imageBox n (equationAt eqs) (entryAt c) x ⌝ }
+// The image K of the box x, with the inverse c: from its middles m, the values f over them and the slopes s over x.
+pub fn image(
+    c: [[i64; N]; N],
+    x: [Interval; N],
+    m: [Interval; N],
+    f: [Interval; N],
+    s: [[Interval; N]; N],
+    n: usize,
+) -> [Interval; N]
+    requires { ⌜ ImageIn n (entryAt c) (sideAt x) (sideAt m) (sideAt f) (cellAt s) ⌝ }
+    ensures { λ r. ⌜ r ≡ vectorOf n (imageFrom n (entryAt c) (sideAt x) (sideAt m) (sideAt f) (cellAt s)) ⌝ }
 {
-    let m = middles(x, n);
-    let f = systems::values_over(eqs, m, n);
-    let s = systems::slopes_over(eqs, x, n);
     let d = matrices::d_vector(c, f, n);
     let b = matrices::b_matrix(c, s, n);
     let z = offsets(x, m, n);

@@ -15,12 +15,12 @@ ghost use Rattle.jobs.specs.Places.{rowAt};
 ghost use Rattle.run.specs.Job.{startOf, lowEnds, highEnds, resultOf};
 
 pub fn start_box(j: Job) -> [Interval; N]
-    requires { ⌜ j .n ≤ nMax ⌝ }
+    requires { ⌜ j .head .n ≤ nMax ⌝ }
     ensures { λ r. ⌜ r ≡ startOf j ⌝ }
 {
-    let n = j.n;
-    let lo = j.lo;
-    let hi = j.hi;
+    let n = j.head.n;
+    let lo = j.ends.lo;
+    let hi = j.ends.hi;
     let mut x = [Interval { lo: 0, hi: 0 }; N];
     for k in 0..n {
         x[k] = Interval {
@@ -72,16 +72,16 @@ pub fn high_ends(x: [Interval; N], n: usize) -> [i64; N]
 }
 
 pub fn result_of(j: Job, o: Outcome) -> Result
-    requires { ⌜ j .n ≤ nMax ⌝ }
+    requires { ⌜ j .head .n ≤ nMax ⌝ }
     ensures { λ r. ⌜ r ≡ resultOf j o ⌝ }
 {
-    let n = j.n;
+    let n = j.head.n;
     let x = o.sides;
     let lo = low_ends(x, n);
     let hi = high_ends(x, n);
     let verdict = o.verdict;
     Result {
-        number: j.number,
+        number: j.head.number,
         verdict: verdict,
         steps: o.steps,
         n: n,

@@ -17,7 +17,13 @@ use Rattle.systems.specs.Fractions.{unitsOf, power, termNum, equationNum
 use Rattle.systems.specs.Kinds.{unitE, vectorE, eigenEquation, equationOf}
 
 abbrev eigenJob : ℕ → List Row → Job
-eigenJob n rows = record { number = 0; kind = Kind.Eigen; n = n; lo = []; hi = []; inv = []; steps = 0; eqs = []; rows = rows; right = [] }
+eigenJob n rows = record {
+  head = record { number = 0; kind = Kind.Eigen; n = n };
+  ends = record { lo = []; hi = [] };
+  inv = [];
+  steps = 0;
+  system = record { eqs = []; rows = rows; right = [] };
+}
 
 -- "eigen, rows 65536,65536 and 0,131072"
 abbrev job12 : Job

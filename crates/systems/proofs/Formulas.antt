@@ -153,22 +153,22 @@ eigen-last m a i P d = rw (sum-cong m (λ j. a j *ℤ coordinate m P d j) (λ j.
     early j l = let ne : j ≡ m → ⊥ = λ e. omega arith in rw (coordinate-other P d ne)
 
 -- ---- a job
-module _ (j : Job) (room : j .n ≤ nMax) (i : ℕ) (l : i < j .n) where
-  pub equation-is : (P : ℕ → ℤ) (d : ℤ) → equationNum (j .n) (equationOf j i) P d ≡ formulaNum j i P d
+module _ (j : Job) (room : j .head .n ≤ nMax) (i : ℕ) (l : i < j .head .n) where
+  pub equation-is : (P : ℕ → ℤ) (d : ℤ) → equationNum (j .head .n) (equationOf j i) P d ≡ formulaNum j i P d
   unfolding equationOf formulaNum
-  equation-is P d = by (j .kind)
+  equation-is P d = by (j .head .kind)
     where
-      by : (k : Kind) → equationNum (j .n) (equationBy k j i) P d ≡ formulaBy k j i P d
+      by : (k : Kind) → equationNum (j .head .n) (equationBy k j i) P d ≡ formulaBy k j i P d
       by Kind.Poly = refl
-      by Kind.Linear = linear-is (j .n) room (rowOf j i) (numberAt (j .right) i) P d
-      by Kind.Eigen = eigen-is (j .n) (pinned j) room (omega arith) (rowOf j i) i l P d
+      by Kind.Linear = linear-is (j .head .n) room (rowOf j i) (numberAt (j .system .right) i) P d
+      by Kind.Eigen = eigen-is (j .head .n) (pinned j) room (omega arith) (rowOf j i) i l P d
 
   -- a given polynomial's degrees are its own
-  pub equation-degrees : (j .kind ≡ Kind.Poly → DegreesIn (j .n) (equationBy Kind.Poly j i)) → DegreesIn (j .n) (equationOf j i)
+  pub equation-degrees : (j .head .kind ≡ Kind.Poly → DegreesIn (j .head .n) (equationBy Kind.Poly j i)) → DegreesIn (j .head .n) (equationOf j i)
   unfolding equationOf
-  equation-degrees given = by (j .kind) given
+  equation-degrees given = by (j .head .kind) given
     where
-      by : (k : Kind) → (k ≡ Kind.Poly → DegreesIn (j .n) (equationBy Kind.Poly j i)) → DegreesIn (j .n) (equationBy k j i)
+      by : (k : Kind) → (k ≡ Kind.Poly → DegreesIn (j .head .n) (equationBy Kind.Poly j i)) → DegreesIn (j .head .n) (equationBy k j i)
       by Kind.Poly h = h refl
-      by Kind.Linear h = record { each = λ t u. omega (arith, linear-exact (j .n) room (rowOf j i) (numberAt (j .right) i) .deg t u) }
-      by Kind.Eigen h = record { each = λ t u. omega (arith, eigen-exact (j .n) (pinned j) room (omega arith) (rowOf j i) i l .deg t u) }
+      by Kind.Linear h = record { each = λ t u. omega (arith, linear-exact (j .head .n) room (rowOf j i) (numberAt (j .system .right) i) .deg t u) }
+      by Kind.Eigen h = record { each = λ t u. omega (arith, eigen-exact (j .head .n) (pinned j) room (omega arith) (rowOf j i) i l .deg t u) }

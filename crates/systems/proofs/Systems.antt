@@ -21,7 +21,7 @@ use Rattle.systems.specs.Fractions.{DegreesIn}
 use Rattle.systems.proofs.Exponents.{row-entry, row-last}
 use Rattle.systems.proofs.Formulas.{built-coef, linear-exact, eigen-exact}
 
-module _ (j : Job) {k : Kind} (e : j .kind ≡ k) where
+module _ (j : Job) {k : Kind} (e : j .head .kind ≡ k) where
   pub equation-by : (i : ℕ) → equationOf j i ≡ equationBy k j i
   unfolding equationOf
   equation-by i = ap (λ k. equationBy k j i) e
@@ -48,29 +48,29 @@ built-in {n} {a} {b} e row right degrees = record {
     coef t l = rw (built-coef n (row .places) a b e t l) (coefs t)
 
 -- an accepted job's equations are in range
-pub system-in : {j : Job} → JobIn j → SystemIn (j .n) (equationOf j)
-system-in {j} h = record { each = λ i l. by (j .kind) refl i l }
+pub system-in : {j : Job} → JobIn j → SystemIn (j .head .n) (equationOf j)
+system-in {j} h = record { each = λ i l. by (j .head .kind) refl i l }
   where
-    by : (k : Kind) → j .kind ≡ k → (i : ℕ) → i < j .n → EquationIn (j .n) (equationOf j i)
+    by : (k : Kind) → j .head .kind ≡ k → (i : ℕ) → i < j .head .n → EquationIn (j .head .n) (equationOf j i)
     by Kind.Poly e i l = rw (equation-by j e i) (parts-by j e h .each i l)
     by Kind.Linear e i l = rw (equation-by j e i) (linear (parts-by j e h))
       where
-        linear : PartsIn Kind.Linear j → EquationIn (j .n) (equationBy Kind.Linear j i)
+        linear : PartsIn Kind.Linear j → EquationIn (j .head .n) (equationBy Kind.Linear j i)
         linear p =
-            let d = linear-exact (j .n) (h .places) (rowOf j i) (numberAt (j .right) i) in
+            let d = linear-exact (j .head .n) (h .places) (rowOf j i) (numberAt (j .system .right) i) in
             unfold linearEquation in (built-in unitE (p .0 i l) (p .1 .each i l) (record { each = λ t u. omega (arith, d .deg t u) }))
     by Kind.Eigen e i l = rw (equation-by j e i) (eigen (parts-by j e h))
       where
-        eigen : PartsIn Kind.Eigen j → EquationIn (j .n) (equationBy Kind.Eigen j i)
+        eigen : PartsIn Kind.Eigen j → EquationIn (j .head .n) (equationBy Kind.Eigen j i)
         eigen p =
             let some = h .some in
-            let d = eigen-exact (j .n) (pinned j) (h .places) (omega arith) (rowOf j i) i l in
+            let d = eigen-exact (j .head .n) (pinned j) (h .places) (omega arith) (rowOf j i) i l in
             unfold eigenEquation in
-            (built-in (eigenE (j .n) (pinned j) i) (p i l) (within-lit (pos mark) entryMax tt) (record { each = λ t u. omega (arith, d .deg t u) }))
+            (built-in (eigenE (j .head .n) (pinned j) i) (p i l) (within-lit (pos mark) entryMax tt) (record { each = λ t u. omega (arith, d .deg t u) }))
 
 -- what `equations` returns, read by its places
-pub equations-at : (j : Job) → j .n ≤ nMax → (i : ℕ) → i < j .n → equationAt (equationsOf j) i ≡ equationOf j i
-equations-at j room i l = getD-tab zeroEquation nMax (j .n) (equationOf j) noEquation i l room
+pub equations-at : (j : Job) → j .head .n ≤ nMax → (i : ℕ) → i < j .head .n → equationAt (equationsOf j) i ≡ equationOf j i
+equations-at j room i l = getD-tab zeroEquation nMax (j .head .n) (equationOf j) noEquation i l room
 
-pub equations-in : {j : Job} → JobIn j → SystemIn (j .n) (equationAt (equationsOf j))
+pub equations-in : {j : Job} → JobIn j → SystemIn (j .head .n) (equationAt (equationsOf j))
 equations-in {j} h = record { each = λ i l. rw (equations-at j (h .places) i l) (system-in h .each i l) }

@@ -29,10 +29,10 @@ eigenNum n p a i P d =
 
 -- "Polynomial: as given."
 abbrev pub formulaBy : Kind → Job → ℕ → (ℕ → ℤ) → ℤ → ℤ
-formulaBy Kind.Poly j i P d = equationNum (j .n) (equationBy Kind.Poly j i) P d
-formulaBy Kind.Linear j i P d = linearNum (j .n) (rowOf j i) (numberAt (j .right) i) P d
-formulaBy Kind.Eigen j i P d = eigenNum (j .n) (pinned j) (rowOf j i) i P d
+formulaBy Kind.Poly j i P d = equationNum (j .head .n) (equationBy Kind.Poly j i) P d
+formulaBy Kind.Linear j i P d = linearNum (j .head .n) (rowOf j i) (numberAt (j .system .right) i) P d
+formulaBy Kind.Eigen j i P d = eigenNum (j .head .n) (pinned j) (rowOf j i) i P d
 
 -- the formula of equation i of a job
 unfoldable pub formulaNum : Job → ℕ → (ℕ → ℤ) → ℤ → ℤ
-formulaNum j i P d = formulaBy (j .kind) j i P d
+formulaNum j i P d = formulaBy (j .head .kind) j i P d

@@ -49,21 +49,21 @@ eigenEquation n p a i = build n (rowCoef n a (pos mark)) (eigenE n p i)
 
 -- "the last coordinate of the vector is set to 1"
 abbrev pub pinned : Job → ℕ
-pinned j = j .n - 1
+pinned j = j .head .n - 1
 
 -- row i of the matrix
 abbrev pub rowOf : Job → ℕ → ℕ → ℤ
-rowOf j i = numberAt (rowAt (j .rows) i)
+rowOf j i = numberAt (rowAt (j .system .rows) i)
 
 abbrev pub equationBy : Kind → Job → ℕ → Equation
-equationBy Kind.Poly j i = equationAt (j .eqs) i
-equationBy Kind.Linear j i = linearEquation (j .n) (rowOf j i) (numberAt (j .right) i)
-equationBy Kind.Eigen j i = eigenEquation (j .n) (pinned j) (rowOf j i) i
+equationBy Kind.Poly j i = equationAt (j .system .eqs) i
+equationBy Kind.Linear j i = linearEquation (j .head .n) (rowOf j i) (numberAt (j .system .right) i)
+equationBy Kind.Eigen j i = eigenEquation (j .head .n) (pinned j) (rowOf j i) i
 
 -- equation i of a job
 unfoldable pub equationOf : Job → ℕ → Equation
-equationOf j i = equationBy (j .kind) j i
+equationOf j i = equationBy (j .head .kind) j i
 
 -- all of them; "places past n play no part"
 abbrev pub equationsOf : Job → List Equation
-equationsOf j = tab nMax (j .n) zeroEquation (equationOf j)
+equationsOf j = tab nMax (j .head .n) zeroEquation (equationOf j)

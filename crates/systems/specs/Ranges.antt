@@ -42,15 +42,15 @@ pub record EntriesIn (n : ℕ) (a : ℕ → ℤ) : Type 0 where
 
 -- the part of a job that its kind's equations are made of
 abbrev pub PartsIn : Kind → Job → Type 0
-PartsIn Kind.Poly j = SystemIn (j .n) (equationAt (j .eqs))
-PartsIn Kind.Linear j = ((i : ℕ) → i < j .n → EntriesIn (j .n) (rowOf j i)) × EntriesIn (j .n) (numberAt (j .right))
-PartsIn Kind.Eigen j = (i : ℕ) → i < j .n → EntriesIn (j .n) (rowOf j i)
+PartsIn Kind.Poly j = SystemIn (j .head .n) (equationAt (j .system .eqs))
+PartsIn Kind.Linear j = ((i : ℕ) → i < j .head .n → EntriesIn (j .head .n) (rowOf j i)) × EntriesIn (j .head .n) (numberAt (j .system .right))
+PartsIn Kind.Eigen j = (i : ℕ) → i < j .head .n → EntriesIn (j .head .n) (rowOf j i)
 
 -- what an accepted job has of it
 pub record JobIn (j : Job) : Type 0 where
-  pub some : 0 < j .n
-  pub places : j .n ≤ nMax
-  pub parts : PartsIn (j .kind) j
+  pub some : 0 < j .head .n
+  pub places : j .head .n ≤ nMax
+  pub parts : PartsIn (j .head .kind) j
 
 -- a product with an end of at most 4.0 makes a bound at most 4 times as large
 unfoldable pub grow : ℕ → ℕ → ℕ

@@ -231,21 +231,23 @@ pub fn eigen_equation(row: [i64; N], i: usize, p: usize, n: usize) -> Equation
 // Equation i of a job.
 pub fn equation_of(j: Job, i: usize) -> Equation
     requires { ⌜ JobIn j ⌝ }
-    requires { ⌜ i < j .n ⌝ }
+    requires { ⌜ i < j .head .n ⌝ }
     ensures { λ r. ⌜ r ≡ equationOf j i ⌝ }
 {
-    let n = j.n;
-    let kind = j.kind;
+    let n = j.head.n;
+    let head = j.head;
+    let kind = head.kind;
+    let system = j.system;
     match kind {
-        Kind::Poly => j.eqs[i],
+        Kind::Poly => system.eqs[i],
         Kind::Linear => {
-            let row = j.rows[i];
+            let row = system.rows[i];
             let at = row.at;
-            let right = j.right[i];
+            let right = system.right[i];
             linear_equation(at, right, n)
         }
         Kind::Eigen => {
-            let row = j.rows[i];
+            let row = system.rows[i];
             let at = row.at;
             eigen_equation(at, i, n - 1, n)
         }
@@ -265,7 +267,7 @@ pub fn equations(j: Job) -> [Equation; N]
         }; TERMS],
     };
     let mut eqs = [none; N];
-    let n = j.n;
+    let n = j.head.n;
     for i in 0..n {
         eqs[i] = equation_of(j, i);
     }

@@ -1,16 +1,16 @@
 -- An `eq` line that is written is read back, with zeros in its dead places.
-use Prim.Native.Nat.{ℕ, zero, suc, _+_, _-_, _≤_, _<_}
+use Prim.Native.Nat.{ℕ, zero, suc, _+_, _-_, _≤_, _<_, min}
 use native.Mathlib.Omega.{arith}
 use native.Mathlib.Numerals.{add-one}
-use mathlib.Core.Path.{_≡_, refl, sym, ap, _∙_}
+use mathlib.Core.Path.{_≡_, refl, sym, ap, ap₂, _∙_}
 use mathlib.Core.List.{List, [], _∷_, _++_, foldl, foldl-append}
-use mathlib.Core.Bool.{true, false}
+use mathlib.Core.Bool.{Bool, true, false, not, _||_}
 use lib.ListN.{length, getD, length-append}
 use lib.Seq.{getD-append-seam, take-append-seam, drop-append-add}
+use lib.IntN.{pos}
 use borrow.Author.Tests.{ne-eqb, le-leb, lt-leb}
-use Rattle.integers.specs.Ranges.{Within}
-use Rattle.sizes.specs.Sizes.{nMax, termsMax, entryMax, degreeMax}
-use Rattle.lists.specs.Loops.{tab}
+use Rattle.sizes.specs.Sizes.{nMax, termsMax, entryMax}
+use Rattle.lists.specs.Loops.{both, allB, tab}
 use Rattle.lists.proofs.Tab.{getD-tab, tab-none, tab-more, tab-cong}
 use Rattle.digits.specs.Bytes.{comma, minusSign, digit0, digit9}
 use Rattle.digits.specs.Show.{showNumber}
@@ -21,9 +21,12 @@ use Rattle.text.proofs.Keys.{body-own}
 use Rattle.text.proofs.Pieces.{Above, AllAbove, above-append, number-above, commas-above, fed-joined}
 use Rattle.jobs.specs.Places.{expOf, termAt}
 use Rattle.jobs.specs.Zero.{zeroTerm}
+use Rattle.jobs.specs.Ranges.{isWithin}
+use Rattle.jobs.specs.Terms.{goodCoefs}
 use Rattle.jobs.specs.Accepted.{GoodEquation}
 use Rattle.jobs.proofs.RangeLaws.{each-all, within-is}
-use Rattle.termtext.specs.Terms.{colon, eqKey, isDigit, allDigits, exponents, noTerms, putTerm, addCoef, addParts, addTerm, lastTerm, readTerms, readEquation}
+use Rattle.termtext.specs.Terms.{colon, eqKey, isDigit, allDigits, exponents, noTerms, putTerm, addCoef, addParts}
+use Rattle.termtext.specs.Terms.{addTerm, lastTerm, readTerms, readEquation}
 use Rattle.termwrite.specs.ShowTerms.{showExponents, showTerm, termTexts, equationText}
 use Rattle.termwrite.proofs.Joined.{tab-next, tab-empty}
 use Rattle.termwrite.proofs.Terms.{digit-low, exponents-long}
@@ -31,6 +34,7 @@ use Rattle.jobs.specs.declared.Term.{Term}
 use Rattle.jobs.specs.declared.Equation.{Equation}
 use Rattle.termtext.specs.declared.Terms.{Terms}
 use Rattle.termround.specs.Live.{liveTerm, liveEquation}
+use Rattle.termround.specs.Spelled.{SpelledTerm, SpelledEquation}
 
 -- ---- no separator stands in a term
 
@@ -42,7 +46,8 @@ module _ (sep : ℕ) (h : sep < minusSign) where
 
   term-above : (n : ℕ) (t : Term) → Above sep (showTerm n t)
   unfolding showTerm showExponents Above
-  term-above n t = above-append sep (showNumber (t .coef)) _ (number-above sep h (t .coef)) (omega arith, digits-above n (expOf t))
+  term-above n t =
+      above-append sep (showNumber (t .coef)) _ (number-above sep h (t .coef)) (omega arith, digits-above n (expOf t))
 
 texts-above : (sep : ℕ) (m : ℕ) (f : ℕ → List ℕ) → ((k : ℕ) → Above sep (f k)) → AllAbove sep (tab m m [] f)
 unfolding tab AllAbove
@@ -62,11 +67,12 @@ pub equation-above : (sep : ℕ) → sep < comma → (n : ℕ) (q : Equation) �
 unfolding equationText termTexts
 equation-above sep h n q =
     above-append sep eqKey _ (key-above sep h)
-    (joined-above sep h _ (texts-above sep (q .count) (λ k. showTerm n (termAt q k)) (λ k. term-above sep (omega arith) n (termAt q k))))
+    (joined-above sep h _ (texts-above sep (q .count) (λ k. showTerm n (termAt q k))
+    (λ k. term-above sep (omega arith) n (termAt q k))))
 
 -- ---- one term
 
-module _ (n : ℕ) (t : Term) (few : n ≤ nMax) (low : (k : ℕ) → k < n → expOf t k ≤ degreeMax) where
+module _ (n : ℕ) (t : Term) (spelled : SpelledTerm n t) where
   ds : List ℕ
   ds = showExponents n t
 
@@ -82,15 +88,16 @@ module _ (n : ℕ) (t : Term) (few : n ≤ nMax) (low : (k : ℕ) → k < n → 
   unfolding allDigits ds
   digits-good =
       rw (exponents-long n t)
-      (each-all _ n (λ k l. is-digit _ (omega (arith, digit-at k l)) (omega (arith, digit-at k l, low k l))))
+      (each-all _ n (λ k l.
+      is-digit _ (omega (arith, digit-at k l)) (omega (arith, digit-at k l, spelled .digits k l))))
 
   exponents-back : exponents n ds ≡ tab nMax n 0 (expOf t)
   unfolding exponents
   exponents-back = tab-cong 0 nMax n _ (expOf t) (λ k l. omega (arith, digit-at k l))
 
-  pub term-back : (a : Terms) → Within (t .coef) entryMax → addTerm n a (showTerm n t) ≡ putTerm a (liveTerm n t)
+  term-back : (a : Terms) → addTerm n a (showTerm n t) ≡ putTerm a (liveTerm n t)
   unfolding addTerm addParts addCoef showTerm ds liveTerm
-  term-back a w =
+  term-back a =
       let num = showNumber (t .coef) in
       let f = num ++ (colon ∷ ds) in
       let long = length-append num (colon ∷ ds) in
@@ -103,7 +110,7 @@ module _ (n : ℕ) (t : Term) (few : n ≤ nMax) (low : (k : ℕ) → k < n → 
         take-append-seam num (colon ∷ ds),
         drop-append-add num (colon ∷ ds) 1,
         digits-good,
-        number-back (t .coef) (omega (arith, w .abs)),
+        number-back (t .coef) (spelled .coef),
         exponents-back,
       )
 
@@ -124,35 +131,51 @@ no-fields : (n : ℕ) → readTerms n (joined []) ≡ noTerms
 unfolding readTerms joined
 no-fields n = refl
 
+-- the size of coefficient k
+abbrev sized : Equation → ℕ → Bool
+sized q k = isWithin (termAt q k .coef) (pos entryMax)
+
 abbrev readTo : ℕ → Equation → ℕ → Terms
 readTo n q m = record {
   ok = true;
-  far = false;
+  far = not (allB m (sized q));
   equation = record { count = m; terms = tab termsMax m zeroTerm (λ k. liveTerm n (termAt q k)) };
 }
 
-module _ (n : ℕ) (q : Equation) (few : n ≤ nMax) (good : GoodEquation q n) where
+not-both : (a b : Bool) → not a || not b ≡ not (both a b)
+not-both true b = refl
+not-both false b = refl
+
+-- one coefficient more
+far-next : (p : ℕ → Bool) (m : ℕ) → not (allB m p) || not (p m) ≡ not (allB (m + 1) p)
+unfolding allB
+far-next p m = rw add-one (not-both (allB m p) (p m))
+
+module _ (n : ℕ) (q : Equation) (spelled : SpelledEquation n q) where
   put-next : (m : ℕ) → m < q .count → putTerm (readTo n q m) (liveTerm n (termAt q m)) ≡ readTo n q (m + 1)
   unfolding putTerm liveTerm
   put-next m l =
-      rw (within-is (good .size m l))
-      (ap (λ (ts : List Term). record { ok = true; far = false; equation = record { count = m + 1; terms = ts } })
-      (tab-more zeroTerm termsMax m _ (omega (arith, good .few)) refl refl))
+      ap₂ (λ (b : Bool) (ts : List Term). record {
+        ok = true;
+        far = b;
+        equation = record { count = m + 1; terms = ts };
+      })
+      (far-next (sized q) m)
+      (tab-more zeroTerm termsMax m _ (omega (arith, spelled .few)) refl refl)
 
   fold-terms : (m : ℕ) → m ≤ q .count → foldl (addTerm n) noTerms (termTexts n q m) ≡ readTo n q m
-  unfolding termTexts noTerms
+  unfolding termTexts noTerms allB
   fold-terms zero l =
       ap (foldl (addTerm n) noTerms) (tab-empty [] _)
-      ∙ ap (λ (ts : List Term). record { ok = true; far = false; equation = record { count = 0; terms = ts } }) (tab-none zeroTerm termsMax _)
+      ∙ ap (λ (ts : List Term). record { ok = true; far = false; equation = record { count = 0; terms = ts } })
+      (tab-none zeroTerm termsMax _)
   fold-terms (suc m) l =
       let f : ℕ → List ℕ = λ k. showTerm n (termAt q k) in
-      let t = termAt q m in
-      let low : (k : ℕ) → k < n → expOf t k ≤ degreeMax = λ k h. omega (arith, digit-low (expOf t) n k h, good .deg m l) in
       ap (λ (x : ℕ). foldl (addTerm n) noTerms (tab x x [] f)) (sym (add-one m))
       ∙ ap (foldl (addTerm n) noTerms) (tab-next [] m f)
       ∙ foldl-append (addTerm n) noTerms (tab m m [] f) (f m ∷ [])
       ∙ ap (λ (a : Terms). addTerm n a (f m)) (fold-terms m (omega arith))
-      ∙ term-back n t few low (readTo n q m) (good .size m l)
+      ∙ term-back n (termAt q m) (spelled .terms m l) (readTo n q m)
       ∙ put-next m l
       ∙ ap (readTo n q) (add-one m)
 
@@ -167,6 +190,29 @@ module _ (n : ℕ) (q : Equation) (few : n ≤ nMax) (good : GoodEquation q n) w
       (texts-above comma m _ (λ k. term-above comma (omega arith) n (termAt q (suc k))))
       ∙ fold-terms (suc m) l)
 
-  pub equation-back : readEquation n (equationText n q) ≡ record { ok = true; far = false; equation = liveEquation n q }
-  unfolding readEquation equationText startsWith liveEquation
-  equation-back = ap (readTerms n) (body-own eqKey (joined (termTexts n q (q .count)))) ∙ terms-back (q .count) (omega arith)
+  -- all of it, and whether a coefficient is beyond its size
+  pub equation-read : readEquation n (equationText n q)
+      ≡ record { ok = true; far = not (goodCoefs q); equation = liveEquation n q }
+  unfolding readEquation equationText startsWith liveEquation goodCoefs
+  equation-read =
+      let few : min (q .count) termsMax ≡ q .count = omega (arith, spelled .few) in
+      rw few
+      (ap (readTerms n) (body-own eqKey (joined (termTexts n q (q .count)))) ∙ terms-back (q .count) (omega arith))
+
+-- an accepted equation can be spelled, and no coefficient is beyond its size
+good-spelled : (n : ℕ) (q : Equation) → GoodEquation q n → SpelledEquation n q
+good-spelled n q good = record {
+  few = good .few;
+  terms = λ k l. record {
+    coef = omega (arith, good .size k l .abs);
+    digits = λ i h. omega (arith, digit-low (expOf (termAt q k)) n i h, good .deg k l);
+  };
+}
+
+pub equation-back : (n : ℕ) (q : Equation) → n ≤ nMax → GoodEquation q n
+    → readEquation n (equationText n q) ≡ record { ok = true; far = false; equation = liveEquation n q }
+unfolding goodCoefs
+equation-back n q few good =
+    let coefs = each-all (sized q) (min (q .count) termsMax) (λ k l. within-is (good .size k (omega arith))) in
+    equation-read n q (good-spelled n q good)
+    ∙ ap (λ (b : Bool). record { ok = true; far = not b; equation = liveEquation n q }) coefs

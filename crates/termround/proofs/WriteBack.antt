@@ -8,6 +8,7 @@ use mathlib.Core.Bool.{Bool, true, false, cond, false≢true}
 use lib.ListN.{length, take, drop, getD, length-drop}
 use lib.Seq.{split-at}
 use lib.Dec.{eqb, leb}
+use lib.IntN.{ℤ}
 use borrow.Author.Tests.{eqb-true, eq-eqb, ne-eqb, leb-true, leb-false}
 use Rattle.sizes.specs.Sizes.{nMax, termsMax}
 use Rattle.lists.specs.Loops.{tab}
@@ -21,12 +22,15 @@ use Rattle.text.specs.Keys.{startsWith, sameBytes, bodyOf}
 use Rattle.text.specs.Lists.{joined}
 use Rattle.text.proofs.Keys.{both, starts-length, same-was, body-was}
 use Rattle.text.proofs.Pieces.{fields, fields-joined, fields-fold}
-use Rattle.termtext.specs.Terms.{colon, eqKey, isDigit, allDigits, exponents, noTerms, misspelled, putTerm, addCoef, addParts, addTerm, lastTerm, readTerms, readEquation}
-use Rattle.termwrite.specs.ShowTerms.{showExponents, showTerm, termTexts, equationText}
+use Rattle.termtext.specs.Terms.{colon, eqKey, isDigit, allDigits, exponents, noTerms, misspelled, putTerm, addCoef}
+use Rattle.termtext.specs.Terms.{addParts, addTerm, lastTerm, readTerms, readEquation}
+use Rattle.termwrite.specs.ShowTerms.{showExponents, showTerm, equationText}
 use Rattle.digits.specs.declared.Number.{Number}
 use Rattle.jobs.specs.declared.Term.{Term}
+use Rattle.jobs.specs.declared.Equation.{Equation}
 use Rattle.termtext.specs.declared.Terms.{Terms}
-use Rattle.termround.proofs.Stored.{fold-count, stored-texts}
+use Rattle.termround.specs.Live.{liveTerm, liveEquation}
+use Rattle.termround.proofs.Stored.{fold-count, stored-texts, stored-live}
 
 zero-one : {A : Type 0} → _≡_ {A = ℕ} 0 1 → A
 zero-one z = absurd (omega arith)
@@ -58,7 +62,8 @@ tab-own [] = refl
 tab-own (d ∷ ds) = ap (λ (l : List ℕ). d ∷ l) (tab-own ds)
 
 -- the exponents are written as they stood
-exponents-was : (n : ℕ) (t : Term) (ds : List ℕ) → n ≤ nMax → length ds ≡ n → allDigits ds ≡ true → t .exps ≡ exponents n ds
+exponents-was : (n : ℕ) (t : Term) (ds : List ℕ) → n ≤ nMax → length ds ≡ n → allDigits ds ≡ true
+    → t .exps ≡ exponents n ds
     → showExponents n t ≡ ds
 unfolding showExponents allDigits exponents
 exponents-was n t ds h l e x =
@@ -94,8 +99,18 @@ record FieldIs (n : ℕ) (a : Terms) (f : List ℕ) : Type 0 where
   t : Term
   text : showTerm n t ≡ f
   read : addTerm n a f ≡ putTerm a t
+  live : liveTerm n t ≡ t
 
-coef-is : (n at : ℕ) (a : Terms) (f : List ℕ) → n ≤ nMax → at + 1 + n ≡ length f → getD f at 0 ≡ colon → allDigits (drop (at + 1) f) ≡ true
+-- digits that are read leave zeros past them
+exponents-live : (n : ℕ) (c : ℤ) (ds : List ℕ) → n ≤ nMax
+    → liveTerm n (record { coef = c; exps = exponents n ds }) ≡ record { coef = c; exps = exponents n ds }
+unfolding liveTerm exponents
+exponents-live n c ds h =
+    ap (λ (l : List ℕ). record { coef = c; exps = l })
+    (tab-cong 0 nMax n _ _ (λ k l. getD-tab 0 nMax n (λ i. getD ds i 0 - digit0) 0 k l h))
+
+coef-is : (n at : ℕ) (a : Terms) (f : List ℕ) → n ≤ nMax → at + 1 + n ≡ length f → getD f at 0 ≡ colon
+    → allDigits (drop (at + 1) f) ≡ true
     → (c : Number) → readNumber (take at f) ≡ c → addCoef a c (exponents n (drop (at + 1) f)) .ok ≡ true
     → addTerm n a f ≡ addCoef a c (exponents n (drop (at + 1) f)) → FieldIs n a f
 unfolding addCoef
@@ -108,6 +123,7 @@ coef-is n at a f h l m d (Number.Is v) p k r =
       text = term-was n at t f (omega arith) m (number-was (take at f) v p)
           (exponents-was n t ds h (length-drop (at + 1) f ∙ omega arith) d refl);
       read = r;
+      live = exponents-live n v ds h;
     }
 
 field-is : (n : ℕ) (a : Terms) (f : List ℕ) → n ≤ nMax → addTerm n a f .ok ≡ true → FieldIs n a f
@@ -118,7 +134,8 @@ field-is n a f h e =
     let mark = if-ok (eqb (getD f at 0) colon) _ _ (long .1) (bad-ok a) in
     let digits = if-ok (allDigits (drop (at + 1) f)) _ _ (mark .1) (bad-ok a) in
     let l = leb-false (length f) n (long .0) in
-    coef-is n at a f h (omega arith) (eqb-true (getD f at 0) colon (mark .0)) (digits .0) (readNumber (take at f)) refl (digits .1)
+    coef-is n at a f h (omega arith) (eqb-true (getD f at 0) colon (mark .0)) (digits .0)
+    (readNumber (take at f)) refl (digits .1)
     (rw (long .0, mark .0, digits .0))
 
 -- ---- all terms
@@ -138,7 +155,8 @@ term-not n a f e =
     let at : ℕ = length f - n - 1 in
     cond-not (leb (length f) n) _ _ (bad-ok a)
     (cond-not (eqb (getD f at 0) colon) _ _
-    (cond-not (allDigits (drop (at + 1) f)) _ _ (coef-not a (readNumber (take at f)) (exponents n (drop (at + 1) f)) e) (bad-ok a)) (bad-ok a))
+    (cond-not (allDigits (drop (at + 1) f)) _ _
+    (coef-not a (readNumber (take at f)) (exponents n (drop (at + 1) f)) e) (bad-ok a)) (bad-ok a))
 
 -- a misspelled line stays so
 stays-not : (n : ℕ) (fs : List (List ℕ)) (a : Terms) → a .ok ≡ false → foldl (addTerm n) a fs .ok ≡ false
@@ -149,12 +167,14 @@ record TermsAre (n : ℕ) (a : Terms) (fs : List (List ℕ)) : Type 0 where
   ts : List Term
   spelled : map (showTerm n) ts ≡ fs
   read : foldl (addTerm n) a fs ≡ foldl putTerm a ts
+  live : map (liveTerm n) ts ≡ ts
 
 terms-are : (n : ℕ) (fs : List (List ℕ)) (a : Terms) → n ≤ nMax → foldl (addTerm n) a fs .ok ≡ true → TermsAre n a fs
-terms-are n [] a h e = record { ts = []; spelled = refl; read = refl }
+terms-are n [] a h e = record { ts = []; spelled = refl; read = refl; live = refl }
 terms-are n (f ∷ fs) a h e = go (addTerm n a f .ok) refl (λ x k. terms-are n fs x h k)
   where
-    go : (b : Bool) → addTerm n a f .ok ≡ b → ((x : Terms) → foldl (addTerm n) x fs .ok ≡ true → TermsAre n x fs) → TermsAre n a (f ∷ fs)
+    go : (b : Bool) → addTerm n a f .ok ≡ b → ((x : Terms) → foldl (addTerm n) x fs .ok ≡ true → TermsAre n x fs)
+        → TermsAre n a (f ∷ fs)
     go false p ih = absurd (false≢true (sym (stays-not n fs (addTerm n a f) p) ∙ e))
     go true p ih =
         let one = field-is n a f h p in
@@ -163,31 +183,55 @@ terms-are n (f ∷ fs) a h e = go (addTerm n a f .ok) refl (λ x k. terms-are n 
           ts = one .t ∷ rest .ts;
           spelled = ap₂ (λ (x : List ℕ) (xs : List (List ℕ)). x ∷ xs) (one .text) (rest .spelled);
           read = ap (λ (x : Terms). foldl (addTerm n) x fs) (one .read) ∙ rest .read;
+          live = ap₂ (λ (x : Term) (xs : List Term). x ∷ xs) (one .live) (rest .live);
         }
 
-no-terms : (n : ℕ) → joined (termTexts n (noTerms .equation) (noTerms .equation .count)) ≡ []
-unfolding noTerms termTexts tab joined
-no-terms n = refl
-
 -- the terms after `eq=`
-terms-was : (n : ℕ) (s : List ℕ) → n ≤ nMax → readTerms n s .ok ≡ true → readTerms n s .equation .count ≤ termsMax
-    → joined (termTexts n (readTerms n s .equation) (readTerms n s .equation .count)) ≡ s
-unfolding readTerms lastTerm
-terms-was n [] h e few = no-terms n
-terms-was n (b ∷ bs) h e few =
+record TermsWere (n : ℕ) (s : List ℕ) : Type 0 where
+  ts : List Term
+  text : joined (map (showTerm n) ts) ≡ s
+  read : readTerms n s ≡ foldl putTerm noTerms ts
+  live : map (liveTerm n) ts ≡ ts
+
+terms-were : (n : ℕ) (s : List ℕ) → n ≤ nMax → readTerms n s .ok ≡ true → TermsWere n s
+unfolding readTerms lastTerm joined
+terms-were n [] h e = record { ts = []; text = refl; read = refl; live = refl }
+terms-were n (b ∷ bs) h e =
     let s = b ∷ bs in
     let some = ne-eqb (suc (length bs)) 0 (omega arith) in
-    let all = terms-are n (fields s) noTerms h (ap (λ (x : Terms). x .ok) (sym (fields-fold (addTerm n) noTerms s)) ∙ (rw some at e)) in
-    let read = fields-fold (addTerm n) noTerms s ∙ all .read in
-    let count = ap (λ (x : Terms). x .equation .count) read ∙ fold-count (all .ts) in
-    rw some
-    (ap (λ (x : Terms). joined (termTexts n (x .equation) (x .equation .count))) read
-    ∙ ap joined (stored-texts n (all .ts) (omega (arith, count, rw some at few)) ∙ all .spelled)
-    ∙ fields-joined s)
+    let all = terms-are n (fields s) noTerms h
+    (ap (λ (x : Terms). x .ok) (sym (fields-fold (addTerm n) noTerms s)) ∙ (rw some at e)) in
+    record {
+      ts = all .ts;
+      text = ap joined (all .spelled) ∙ fields-joined s;
+      read = rw some (fields-fold (addTerm n) noTerms s ∙ all .read);
+      live = all .live;
+    }
 
-pub equation-was : (n : ℕ) (l : List ℕ) → n ≤ nMax → readEquation n l .ok ≡ true → readEquation n l .equation .count ≤ termsMax
-    → equationText n (readEquation n l .equation) ≡ l
-unfolding readEquation equationText
+-- a line is the one that is written for the equation that it says, and there are zeros in the dead places
+pub record EquationWas (n : ℕ) (l : List ℕ) (q : Equation) : Type 0 where
+  pub text : equationText n q ≡ l
+  pub live : liveEquation n q ≡ q
+
+terms-was : (n : ℕ) (s : List ℕ) → n ≤ nMax → readTerms n s .ok ≡ true
+    → readTerms n s .equation .count ≤ termsMax
+    → EquationWas n (eqKey ++ s) (readTerms n s .equation)
+unfolding equationText
+terms-was n s h e few =
+    let w = terms-were n s h e in
+    let count = ap (λ (x : Terms). x .equation .count) (w .read) ∙ fold-count (w .ts) in
+    let short : length (w .ts) ≤ termsMax = omega arith in
+    rw (w .read) (record {
+      text = ap (λ (x : List (List ℕ)). eqKey ++ joined x) (stored-texts n (w .ts) short)
+          ∙ ap (λ (x : List ℕ). eqKey ++ x) (w .text);
+      live = stored-live n (w .ts) short (w .live);
+    })
+
+pub equation-was : (n : ℕ) (l : List ℕ) → n ≤ nMax → readEquation n l .ok ≡ true
+    → readEquation n l .equation .count ≤ termsMax
+    → EquationWas n l (readEquation n l .equation)
+unfolding readEquation
 equation-was n l h e few =
     let key = if-ok (startsWith eqKey l) _ _ e (bad-ok noTerms) in
-    rw (key .0) (ap (λ (t : List ℕ). eqKey ++ t) (terms-was n (bodyOf eqKey l) h (key .1) (rw (key .0) at few)) ∙ key-was eqKey l (key .0))
+    let w = terms-was n (bodyOf eqKey l) h (key .1) (rw (key .0) at few) in
+    rw (key .0) (record { text = w .text ∙ key-was eqKey l (key .0); live = w .live })

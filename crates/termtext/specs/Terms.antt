@@ -34,6 +34,10 @@ isDigit b = leb digit0 b && leb b digit9
 unfoldable pub allDigits : List ℕ → Bool
 allDigits s = allB (length s) (λ k. isDigit (getD s k 0))
 
+-- "`n` is one digit"
+unfoldable pub oneDigit : List ℕ → Bool
+oneDigit s = eqb (length s) 1 && allDigits s
+
 -- "one digit for each unknown": the exponents of n unknowns, and zero past them
 unfoldable pub exponents : ℕ → List ℕ → List ℕ
 exponents n s = tab nMax n 0 (λ k. getD s k 0 - digit0)

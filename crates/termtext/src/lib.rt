@@ -5,12 +5,13 @@ ghost use Prim.Native.Nat.{_+_, _-_, _≤_};
 ghost use lib.ListN.{length};
 ghost use Rattle.sizes.specs.Sizes.{nMax, textMax};
 ghost use Rattle.digits.specs.Bytes.{digit0};
-ghost use Rattle.jobs.specs.Zero.{zeroTerm, zeroEquation};
 ghost use Rattle.termtext.specs.Terms.{isDigit, allDigits, exponents, noTerms, misspelled, Adds, Counts};
 ghost use Rattle.termtext.specs.Terms.{addCoef, addParts, addTerm, readTerms, readEquation};
 use digits::Number;
 use jobs::Equation;
 use jobs::Term;
+use jobs::zero::zero_equation;
+use jobs::zero::zero_term;
 use sizes::ENTRY;
 use sizes::N;
 use sizes::TERMS;
@@ -33,25 +34,6 @@ struct Tally {
 struct Field {
     ok: bool,
     term: Term,
-}
-
-pub fn zero_term() -> Term
-    ensures { λ r. ⌜ r ≡ zeroTerm ⌝ }
-{
-    Term {
-        coef: 0,
-        exps: [0; N],
-    }
-}
-
-pub fn zero_equation() -> Equation
-    ensures { λ r. ⌜ r ≡ zeroEquation ⌝ }
-{
-    let t = zero_term();
-    Equation {
-        count: 0,
-        terms: [t; TERMS],
-    }
 }
 
 fn is_digit(b: u8) -> bool

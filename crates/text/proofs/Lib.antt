@@ -3,3 +3,4 @@ pub mod Keys
 pub mod Pieces
 pub mod Counts
 pub mod Lists
+pub mod ListLines

@@ -16,7 +16,7 @@ use Rattle.digits.proofs.ReadBack.{number-back}
 use Rattle.digits.proofs.WriteBack.{number-was}
 use Rattle.digits.specs.declared.Number.{Number}
 use Rattle.text.specs.declared.Numbers.{Numbers}
-use Rattle.text.specs.Lists.{placesMax, noNumbers, putNumber, addRead, addField, lastField, readList, joined, showList, padded, Small}
+use Rattle.text.specs.Lists.{placesMax, noNumbers, putNumber, addRead, addField, lastField, readList, joined, showList, Small}
 use Rattle.text.proofs.Pieces.{Above, AllAbove, above-append, commas-above, number-above, fed-joined, fields, fields-joined, fields-fold}
 
 -- ---- numbers at their places
@@ -52,6 +52,11 @@ unfolding putNumber
 put-count [] a = sym (add-zero (a .count))
 put-count (v ∷ vs) a = put-count vs (putNumber a v) ∙ omega arith
 
+put-ok : (vs : List ℤ) (a : Numbers) → foldl putNumber a vs .ok ≡ a .ok
+unfolding putNumber
+put-ok [] a = refl
+put-ok (v ∷ vs) a = put-ok vs (putNumber a v)
+
 from-none : (vs : List ℤ) → foldl putNumber noNumbers vs .count ≡ length vs
 unfolding noNumbers
 from-none vs = put-count vs noNumbers ∙ omega arith
@@ -78,14 +83,25 @@ list-above sep h (v ∷ vs) =
     above-append sep (showNumber v) _ (number-above sep (omega arith) v)
     (commas-above sep h (map showNumber vs) (all-above sep (omega arith) vs))
 
+list-put : (vs : List ℤ) → 0 < length vs → Small vs → readList (showList vs) ≡ foldl putNumber noNumbers vs
+unfolding readList lastField showList
+list-put [] n s = absurd (omega arith)
+list-put (v ∷ vs) n s =
+    fed-joined addField noNumbers (showNumber v) (map showNumber vs) (number-above comma (omega arith) v)
+    (all-above comma (omega arith) vs)
+    ∙ fold-shown noNumbers (v ∷ vs) s
+
 pub list-back : (vs : List ℤ) → 0 < length vs → Small vs → length vs ≤ placesMax
     → readList (showList vs) ≡ listed (length vs) (vs ++ drop (length vs) zeros)
-unfolding readList lastField showList
-list-back [] n s h = absurd (omega arith)
-list-back (v ∷ vs) n s h =
-    fed-joined addField noNumbers (showNumber v) (map showNumber vs) (number-above comma (omega arith) v) (all-above comma (omega arith) vs)
-    ∙ fold-shown noNumbers (v ∷ vs) s
-    ∙ put-list (v ∷ vs) h
+list-back vs n s h = list-put vs n s ∙ put-list vs h
+
+-- numbers past the last place are counted too
+pub list-counts : (vs : List ℤ) → 0 < length vs → Small vs
+    → (readList (showList vs) .ok ≡ true) × (readList (showList vs) .count ≡ length vs)
+unfolding noNumbers
+list-counts vs n s =
+    let e = list-put vs n s in
+    (ap (λ (a : Numbers). a .ok) e ∙ put-ok vs noNumbers, ap (λ (a : Numbers). a .count) e ∙ from-none vs)
 
 -- ---- a list that is read
 
@@ -145,25 +161,7 @@ drop-zeros zero m = let e : m - 0 ≡ m = omega arith in rw e
 drop-zeros (suc k) zero = let e : 0 - suc k ≡ 0 = omega arith in rw e
 drop-zeros (suc k) (suc m) = let e : suc m - suc k ≡ m - k = omega arith in rw e (drop-zeros k m)
 
-take-zeros : (k m : ℕ) → k ≤ m → take k (replicate m (pos 0)) ≡ replicate k (pos 0)
+pub take-zeros : (k m : ℕ) → k ≤ m → take k (replicate m (pos 0)) ≡ replicate k (pos 0)
 take-zeros zero m h = refl
 take-zeros (suc k) zero h = absurd (omega arith)
 take-zeros (suc k) (suc m) h = ap (λ (l : List ℤ). pos 0 ∷ l) (take-zeros k m (omega arith))
-
-pub row-padded : (xs : List ℤ) → length xs ≤ nMax → take nMax (xs ++ drop (length xs) zeros) ≡ padded xs
-unfolding padded
-row-padded xs h =
-    let k : ℕ = nMax - length xs in
-    let e : length xs + k ≡ nMax = omega arith in
-    ap (λ (m : ℕ). take m (xs ++ drop (length xs) zeros)) (sym e)
-    ∙ take-append-add xs (drop (length xs) zeros) k
-    ∙ ap (λ (l : List ℤ). xs ++ l)
-    (ap (take k) (drop-zeros (length xs) placesMax) ∙ take-zeros k (placesMax - length xs) (omega arith))
-
-pub take-padded : (xs : List ℤ) → take (length xs) (padded xs) ≡ xs
-unfolding padded
-take-padded xs = take-append-seam xs (replicate (nMax - length xs) (pos 0))
-
-pub getD-padded : (xs : List ℤ) (i : ℕ) → i < length xs → getD (padded xs) i (pos 0) ≡ getD xs i (pos 0)
-unfolding padded
-getD-padded xs i h = List·getD-append xs (replicate (nMax - length xs) (pos 0)) (pos 0) i h

@@ -2,3 +2,4 @@ pub mod Cut
 pub mod Keys
 pub mod Counts
 pub mod Lists
+pub mod Words

@@ -1,8 +1,8 @@
 -- "Lists are joined by commas."
-use Prim.Native.Nat.{ℕ, _+_, _-_, _*_, _^_, _<_}
+use Prim.Native.Nat.{ℕ, _+_, _*_, _^_, _<_}
 use mathlib.Core.List.{List, [], _∷_, _++_, map}
 use mathlib.Core.Bool.{true, false}
-use lib.ListN.{length, set, replicate}
+use lib.ListN.{set, replicate}
 use lib.IntN.{ℤ, pos, natAbs}
 use Rattle.sizes.specs.Sizes.{nMax}
 use Rattle.digits.specs.Bytes.{comma}
@@ -11,15 +11,10 @@ use Rattle.digits.specs.Show.{showNumber}
 use Rattle.digits.specs.declared.Number.{Number}
 use Rattle.text.specs.Cut.{Cut, fresh, feeds}
 use Rattle.text.specs.declared.Numbers.{Numbers}
-use Rattle.text.specs.declared.Tally.{Tally}
 
 -- as many as `inv` has
 abbrev pub placesMax : ℕ
 placesMax = nMax * nMax
-
--- with the numbers' places apart, as the reader's loop keeps them
-abbrev pub counted : Tally → List ℤ → Numbers
-counted t vals = record { ok = t .spelled; count = t .count; vals = vals }
 
 -- no number yet
 unfoldable pub noNumbers : Numbers
@@ -62,7 +57,3 @@ showList vs = joined (map showNumber vs)
 unfoldable pub Small : List ℤ → Type 0
 Small [] = Unit {0}
 Small (v ∷ vs) = (natAbs v < 10 ^ digitsMax) × Small vs
-
--- a row of N places: the numbers, and zeros after them
-unfoldable pub padded : List ℤ → List ℤ
-padded xs = xs ++ replicate (nMax - length xs) (pos 0)

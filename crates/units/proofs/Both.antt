@@ -9,13 +9,14 @@ use borrow.Author.Tests.{le-ltb}
 use Rattle.sizes.specs.Sizes.{textMax}
 use Rattle.jobs.specs.CheckResult.{checkResult}
 use Rattle.jobs.specs.declared.Result.{Result}
-use Rattle.jobs.specs.declared.Status.{Status}
+use Rattle.faults.specs.declared.Status.{Status}
 use Rattle.writing.specs.Wrote.{Wrote}
-use Rattle.writing.specs.Answer.{answerOf, leftIn, Leaves}
-use Rattle.writing.specs.declared.Written.{Written}
+use Rattle.faults.specs.Answer.{answerOf, leftIn, Leaves}
+use Rattle.faults.specs.declared.Written.{Written}
 use Rattle.writing.proofs.Wrote.{wrote-append}
-use Rattle.resultwrite.specs.Show.{showResult}
-use Rattle.resultwrite.proofs.Ready.{ready-done, result-short}
+use Rattle.result_form.specs.ResultShows.{showResult}
+use Rattle.result_form.proofs.Trips.{result-short}
+use Rattle.result_write.proofs.Ready.{ready-done}
 use Rattle.units.specs.Show.{unknownLines, unitsOf}
 
 pub checked-short : (r : Result) → checkResult r ≡ Status.Done → length (showResult r) ≤ textMax

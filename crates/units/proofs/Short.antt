@@ -2,12 +2,12 @@
 use Prim.Native.Nat.{ℕ, suc, _+_, _*_, _≤_, _<_, _^_}
 use native.Mathlib.Omega.{arith}
 use mathlib.Core.List.{List, _++_}
-use lib.ListN.{length, take, getD, length-append, length-take, List·getD-eq-default}
-use lib.Seq.{getD-take}
+use lib.ListN.{length, getD, length-append}
 use lib.IntN.{ℤ, pos, negsuc, natAbs}
 use Rattle.digits.specs.Number.{digitsMax}
-use Rattle.digits.proofs.Cases.{either}
 use Rattle.digits.proofs.Show.{show-short}
+use Rattle.lists.proofs.Tab.{getD-tab, length-tab}
+use Rattle.reading.specs.NumberLines.{placed}
 use Rattle.text.specs.Lists.{Small}
 use Rattle.writing.specs.Wrote.{line}
 use Rattle.writing.proofs.Lists.{small-at}
@@ -31,8 +31,8 @@ unfolding unknownLine line
 unknown-short k lo hi =
     simp length-append (omega (arith, show-short digitsMax k, ends-short lo hi))
 
-pub small-live : (xs : List ℤ) (n i : ℕ) → Small (take n xs) → i < n → natAbs (getD xs i (pos 0)) < 10 ^ digitsMax
+pub small-live : (xs : List ℤ) (n i : ℕ) → Small (placed n n xs) → i < n
+    → natAbs (getD xs i (pos 0)) < 10 ^ digitsMax
 small-live xs n i s h =
-    either i (length xs)
-    (λ p. rw (getD-take n xs i (pos 0) h) at (small-at (take n xs) i s (omega (arith, length-take n xs))))
-    (λ p. rw (List·getD-eq-default xs (pos 0) p) (omega arith))
+    rw (getD-tab (pos 0) n n (λ k. getD xs k (pos 0)) (pos 0) i h (omega arith)) at
+    (small-at (placed n n xs) i s (omega (arith, length-tab (pos 0) n n (λ k. getD xs k (pos 0)))))

@@ -2,7 +2,7 @@
 use Prim.Native.Nat.{ℕ, zero, suc, _+_, _*_, _≤_}
 use mathlib.Core.Path.{_≡_}
 use mathlib.Core.List.{List, [], _∷_, _++_}
-use lib.ListN.{length, take, getD}
+use lib.ListN.{length, getD}
 use lib.IntN.{ℤ, pos}
 use Rattle.sizes.specs.Sizes.{nMax, textMax}
 use Rattle.digits.specs.Number.{digitsMax}
@@ -11,8 +11,10 @@ use Rattle.text.specs.Lists.{Small}
 use Rattle.jobs.specs.declared.Job.{Job}
 use Rattle.jobs.specs.declared.Result.{Result}
 use Rattle.writing.specs.Wrote.{placeMax, line}
-use Rattle.resultwrite.specs.Show.{showResult, Ready}
-use Rattle.jobtext.specs.JobText.{readJob}
+use Rattle.result_form.specs.ResultShows.{showResult}
+use Rattle.result_write.specs.Ready.{Ready}
+use Rattle.reading.specs.NumberLines.{placed}
+use Rattle.job_form.specs.JobForm.{readJob}
 use Rattle.run.specs.Job.{runJob}
 use Rattle.units.specs.Units.{showUnits}
 
@@ -57,8 +59,8 @@ unknownMax = 100
 pub record LinesFit (at : ℕ) (lo hi : List ℤ) (n : ℕ) : Type 0 where
   pub few : n ≤ nMax
   pub room : at + unknownMax * (nMax + 2) ≤ placeMax
-  pub low : Small (take n lo)
-  pub high : Small (take n hi)
+  pub low : Small (placed n n lo)
+  pub high : Small (placed n n hi)
 
 -- what the writer of both relies on: the text is the result's
 pub record TextFits (r : Result) (t : List ℕ) : Type 0 where

@@ -1,22 +1,22 @@
 // An answer in units beside the marks, for people. It is exact: a mark has a finite decimal.
 ghost use mathlib.Core.Path.{_≡_};
-ghost use Rattle.jobs.specs.declared.Status.{Status};
+ghost use Rattle.faults.specs.declared.Status.{Status};
 ghost use Rattle.jobs.specs.CheckResult.{checkResult};
-ghost use Rattle.writing.specs.Answer.{Leaves};
+ghost use Rattle.faults.specs.Answer.{Leaves};
 ghost use Rattle.desk.specs.Desk.{runStatus, solveStatus};
 ghost use Rattle.units.specs.Show.{unitsOf, unitsRun, unitsText, TextFits};
 
-pub mod lines;
 pub mod numbers;
+pub mod sides;
 
-use jobs::Fault;
+use faults::Fault;
+use faults::Status;
+use faults::Written;
 use jobs::Job;
 use jobs::Result;
-use jobs::Status;
 use jobs::check_result::check_result;
-use lines::put_unknowns;
+use sides::put_unknowns;
 use sizes::TEXT;
-use writing::Written;
 use writing::put_bytes;
 
 // The result's text, and behind it the lines, which are measured on a buffer of one byte.
@@ -48,7 +48,7 @@ fn write_checked(r: Result, out: &mut [u8]) -> Written
     ensures { λ a. ⌜ Leaves Status.Done (unitsOf r) (now (out .entry)) (now (out .exit)) a ⌝ }
 {
     let mut text = [0u8; TEXT];
-    let a = resultwrite::write_result(r, &mut text);
+    let a = result_write::write_result(r, &mut text);
     let len = a.len;
     put_both(r, &text[..len], out)
 }
@@ -84,7 +84,7 @@ fn write_run(j: Job, out: &mut [u8]) -> Written
 pub fn show(text: &[u8], out: &mut [u8]) -> Written
     ensures { λ a. ⌜ Leaves (solveStatus (now (text .entry))) (unitsText (now (text .entry))) (now (out .entry)) (now (out .exit)) a ⌝ }
 {
-    let read = jobtext::read_job(text);
+    let read = job_read::read_job(text);
     let status = read.status;
     match status {
         Status::Refused(f, line) => Written {

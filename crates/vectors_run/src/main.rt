@@ -1,10 +1,13 @@
 // Runs document 01's job 41 and its marked examples T7 to T11 and prints each result as its text would be.
+use faults::Status;
+use jobs::Body;
+use jobs::Ends;
 use jobs::Equation;
+use jobs::Head;
 use jobs::Job;
 use jobs::Kind;
 use jobs::Result;
 use jobs::Row;
-use jobs::Status;
 use jobs::Term;
 use jobs::Verdict;
 use sizes::N;
@@ -135,16 +138,22 @@ fn poly(number: u64, lo: i64, hi: i64, c: i64, steps: u64, q: Equation) -> Job {
     let mut eqs = [equation(0, term(0, 0), term(0, 0)); N];
     eqs[0] = q;
     Job {
-        number: number,
-        kind: Kind::Poly,
-        n: 1,
-        lo: lows,
-        hi: highs,
+        head: Head {
+            number: number,
+            kind: Kind::Poly,
+            n: 1,
+        },
+        ends: Ends {
+            lo: lows,
+            hi: highs,
+        },
         inv: inv,
         steps: steps,
-        eqs: eqs,
-        rows: rows(none, none),
-        right: none,
+        system: Body {
+            eqs: eqs,
+            rows: rows(none, none),
+            right: none,
+        },
     }
 }
 
@@ -156,16 +165,22 @@ fn linear() -> Job {
     let system = rows(two(131072, 0), two(0, 262144));
     let right = two(65536, 65536);
     Job {
-        number: 11,
-        kind: Kind::Linear,
-        n: 2,
-        lo: lows,
-        hi: highs,
+        head: Head {
+            number: 11,
+            kind: Kind::Linear,
+            n: 2,
+        },
+        ends: Ends {
+            lo: lows,
+            hi: highs,
+        },
         inv: inv,
         steps: 8,
-        eqs: [equation(0, term(0, 0), term(0, 0)); N],
-        rows: system,
-        right: right,
+        system: Body {
+            eqs: [equation(0, term(0, 0), term(0, 0)); N],
+            rows: system,
+            right: right,
+        },
     }
 }
 

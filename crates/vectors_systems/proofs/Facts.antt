@@ -58,13 +58,13 @@ module _ {n : ℕ} (l : n ≤ 2) where
 
 -- what F and S of a job ask, and that they are in the bound
 module _ {j : Job} {X : ℕ → Interval} {eqs : List Equation} (h : Small j) (box : BoxIn 2 X) (e : eqs ≡ equationsOf j) where
-  pub asked : BoxIn (j .n) X × SystemIn (j .n) (equationAt eqs)
+  pub asked : BoxIn (j .head .n) X × SystemIn (j .head .n) (equationAt eqs)
   asked = (box-of (h .few) box, rw e (equations-in (h .facts)))
 
-  pub values-shown : {f : List Interval} → f ≡ valuesOver (j .n) (equationAt eqs) X → RowIn (j .n) (sideAt f)
+  pub values-shown : {f : List Interval} → f ≡ valuesOver (j .head .n) (equationAt eqs) X → RowIn (j .head .n) (sideAt f)
   values-shown p = rw (p, e) (record { places = h .facts .places; each = λ k m. in-values (box-of (h .few) box) (equations-in (h .facts)) k m })
 
-  pub slopes-shown : {s : List (List Interval)} → s ≡ slopesOver (j .n) (equationAt eqs) X → RowsIn (j .n) s
+  pub slopes-shown : {s : List (List Interval)} → s ≡ slopesOver (j .head .n) (equationAt eqs) X → RowsIn (j .head .n) s
   slopes-shown p = rw (p, e) (record {
     places = h .facts .places;
     each = λ i m. record { places = h .facts .places; each = λ k o. in-more (lit≤ tt) (in-slopes (box-of (h .few) box) (equations-in (h .facts)) i m k o) };

@@ -21,4 +21,4 @@ pub record RowsIn (n : ℕ) (s : List (List Interval)) : Type 0 where
 -- one unknown or two
 pub record Small (j : Job) : Type 0 where
   pub facts : JobIn j
-  pub few : j .n ≤ 2
+  pub few : j .head .n ≤ 2

@@ -1,6 +1,9 @@
 // Prints F and S of three systems whose values were worked out by hand from document 01: job 41, T12 and two polynomials with mixed terms.
 use intervals::Interval;
+use jobs::Body;
+use jobs::Ends;
 use jobs::Equation;
+use jobs::Head;
 use jobs::Job;
 use jobs::Kind;
 use jobs::Row;
@@ -65,7 +68,7 @@ fn show(j: Job, m: [Interval; N], x: [Interval; N])
     requires { ⌜ BoxIn 2 (sideAt m) ⌝ }
     requires { ⌜ BoxIn 2 (sideAt x) ⌝ }
 {
-    let n = j.n;
+    let n = j.head.n;
     let eqs = systems::equations(j);
     io::write_all(1, b"F");
     row(systems::values_over(eqs, m, n), n);
@@ -128,16 +131,22 @@ fn poly(n: usize, p: Equation, q: Equation) -> Job
     let mut eqs = [p; N];
     eqs[1] = q;
     Job {
-        number: 0,
-        kind: Kind::Poly,
-        n: n,
-        lo: [0; N],
-        hi: [0; N],
+        head: Head {
+            number: 0,
+            kind: Kind::Poly,
+            n: n,
+        },
+        ends: Ends {
+            lo: [0; N],
+            hi: [0; N],
+        },
         inv: [Row { at: [0; N] }; N],
         steps: 0,
-        eqs: eqs,
-        rows: [Row { at: [0; N] }; N],
-        right: [0; N],
+        system: Body {
+            eqs: eqs,
+            rows: [Row { at: [0; N] }; N],
+            right: [0; N],
+        },
     }
 }
 
@@ -153,16 +162,22 @@ fn eigen(q: Equation) -> Job
     let mut rows = [Row { at: a }; N];
     rows[1] = Row { at: b };
     Job {
-        number: 0,
-        kind: Kind::Eigen,
-        n: 2,
-        lo: [0; N],
-        hi: [0; N],
+        head: Head {
+            number: 0,
+            kind: Kind::Eigen,
+            n: 2,
+        },
+        ends: Ends {
+            lo: [0; N],
+            hi: [0; N],
+        },
         inv: [Row { at: [0; N] }; N],
         steps: 0,
-        eqs: [q; N],
-        rows: rows,
-        right: [0; N],
+        system: Body {
+            eqs: [q; N],
+            rows: rows,
+            right: [0; N],
+        },
     }
 }
 

@@ -7,13 +7,13 @@ use sizes::TERMS;
 
 pub fn number(j: Job, number: u64) -> Job {
     let mut r = j;
-    r.number = number;
+    r.head.number = number;
     r
 }
 
 pub fn unknowns(j: Job, n: usize) -> Job {
     let mut r = j;
-    r.n = n;
+    r.head.n = n;
     r
 }
 
@@ -26,8 +26,10 @@ pub fn steps(j: Job, steps: u64) -> Job {
 // The ends of the second unknown.
 pub fn ends(j: Job, lo: i64, hi: i64) -> Job {
     let mut r = j;
-    r.lo[1] = lo;
-    r.hi[1] = hi;
+    let mut e = r.ends;
+    e.lo[1] = lo;
+    e.hi[1] = hi;
+    r.ends = e;
     r
 }
 
@@ -43,42 +45,52 @@ pub fn inverse(j: Job, v: i64) -> Job {
 // All places of the first equation, and how many of them are live.
 pub fn first_terms(j: Job, t: Term, count: usize) -> Job {
     let mut r = j;
+    let mut system = r.system;
     let terms = [t; TERMS];
-    r.eqs[0] = Equation { count, terms };
+    system.eqs[0] = Equation { count, terms };
+    r.system = system;
     r
 }
 
 // The first term of the first equation.
 pub fn first_term(j: Job, t: Term) -> Job {
     let mut r = j;
-    let mut q = r.eqs[0];
+    let mut system = r.system;
+    let mut q = system.eqs[0];
     q.terms[0] = t;
-    r.eqs[0] = q;
+    system.eqs[0] = q;
+    r.system = system;
     r
 }
 
 // The last term of the second equation.
 pub fn last_term(j: Job, t: Term) -> Job {
     let mut r = j;
-    let mut q = r.eqs[1];
+    let mut system = r.system;
+    let mut q = system.eqs[1];
     q.terms[1] = t;
-    r.eqs[1] = q;
+    system.eqs[1] = q;
+    r.system = system;
     r
 }
 
 // The last live entry of the matrix.
 pub fn entry(j: Job, v: i64) -> Job {
     let mut r = j;
-    let mut row = r.rows[1];
+    let mut system = r.system;
+    let mut row = system.rows[1];
     row.at[1] = v;
-    r.rows[1] = row;
+    system.rows[1] = row;
+    r.system = system;
     r
 }
 
 // The first right side.
 pub fn right(j: Job, v: i64) -> Job {
     let mut r = j;
-    r.right[0] = v;
+    let mut system = r.system;
+    system.right[0] = v;
+    r.system = system;
     r
 }
 

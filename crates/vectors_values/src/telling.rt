@@ -1,9 +1,9 @@
 // What comes back for values: a status, and the whole of the lent buffer, which held dots.
+use faults::Status;
+use faults::Written;
 use jobs::Job;
 use jobs::Result;
-use jobs::Status;
 use sizes::N;
-use writing::Written;
 
 // More than any text here has.
 const ROOM: usize = 128;
@@ -15,7 +15,7 @@ fn status(s: Status) {
         }
         Status::Refused(f, line) => {
             io::write_all(1, b"fault=");
-            io::print_decimal(1, desk::fault_number(f));
+            io::print_decimal(1, faults::fault_number(f));
             io::write_all(1, b" line=");
             io::print_decimal(1, line);
         }
@@ -54,7 +54,7 @@ fn past(xs: [i64; N], n: usize) {
 }
 
 pub fn result_into(r: Result, out: &mut [u8]) {
-    let w = resultwrite::write_result(r, out);
+    let w = result_write::write_result(r, out);
     written(w, out);
 }
 
@@ -96,7 +96,7 @@ fn ran(j: Job) {
 }
 
 pub fn job_into(j: Job, out: &mut [u8]) {
-    let w = jobwrite::write_job(j, out);
+    let w = job_write::write_job(j, out);
     written(w, out);
 }
 

@@ -1,5 +1,8 @@
 // Right jobs and a right result of two unknowns with garbage in every dead place, and the same with one value changed.
+use jobs::Body;
+use jobs::Ends;
 use jobs::Equation;
+use jobs::Head;
 use jobs::Job;
 use jobs::Kind;
 use jobs::Result;
@@ -63,16 +66,15 @@ pub fn poly() -> Job {
     let rows = no_rows();
     let right = [LEAST; N];
     Job {
-        number: 41,
-        kind: Kind::Poly,
-        n: 2,
-        lo,
-        hi,
+        head: Head {
+            number: 41,
+            kind: Kind::Poly,
+            n: 2,
+        },
+        ends: Ends { lo, hi },
         inv,
         steps: 8,
-        eqs,
-        rows,
-        right,
+        system: Body { eqs, rows, right },
     }
 }
 
@@ -85,16 +87,15 @@ pub fn linear() -> Job {
     let rows = rows(pair(131072, 0), pair(0, 262144));
     let right = pair(65536, 65536);
     Job {
-        number: 11,
-        kind: Kind::Linear,
-        n: 2,
-        lo,
-        hi,
+        head: Head {
+            number: 11,
+            kind: Kind::Linear,
+            n: 2,
+        },
+        ends: Ends { lo, hi },
         inv,
         steps: 8,
-        eqs,
-        rows,
-        right,
+        system: Body { eqs, rows, right },
     }
 }
 
@@ -107,16 +108,15 @@ pub fn eigen() -> Job {
     let rows = rows(pair(65536, 65536), pair(0, 131072));
     let right = [LEAST; N];
     Job {
-        number: 12,
-        kind: Kind::Eigen,
-        n: 2,
-        lo,
-        hi,
+        head: Head {
+            number: 12,
+            kind: Kind::Eigen,
+            n: 2,
+        },
+        ends: Ends { lo, hi },
         inv,
         steps: 8,
-        eqs,
-        rows,
-        right,
+        system: Body { eqs, rows, right },
     }
 }
 

@@ -2,4 +2,3 @@ pub mod Wrote
 pub mod Lists
 pub mod Lines
 pub mod Answer
-pub mod ListLines

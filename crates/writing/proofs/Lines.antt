@@ -14,20 +14,34 @@ use Rattle.text.specs.Lists.{showList}
 use Rattle.writing.specs.Wrote.{line}
 use Rattle.writing.proofs.Lists.{list-short}
 
-pub count-line-short : (key : List ℕ) (m : ℕ) → length (line (key ++ showMagnitude digitsMax m)) ≤ length key + digitsMax + 1
+pub count-line-short : (key : List ℕ) (m : ℕ)
+    → length (line (key ++ showMagnitude digitsMax m)) ≤ length key + digitsMax + 1
 unfolding line
 count-line-short key m =
-    rw (length-append (key ++ showMagnitude digitsMax m) (lineFeed ∷ []), length-append key (showMagnitude digitsMax m))
+    let digits = showMagnitude digitsMax m in
+    rw (length-append (key ++ digits) (lineFeed ∷ []), length-append key digits)
     (omega (arith, show-short digitsMax m))
 
-pub list-line-short : (key : List ℕ) (xs : List ℤ) → length (line (key ++ showList xs)) ≤ length key + (digitsMax + 2) * length xs + 1
+pub list-line-short : (key : List ℕ) (xs : List ℤ)
+    → length (line (key ++ showList xs)) ≤ length key + (digitsMax + 2) * length xs + 1
 unfolding line
 list-line-short key xs =
-    rw (length-append (key ++ showList xs) (lineFeed ∷ []), length-append key (showList xs)) (omega (arith, list-short xs))
+    rw (length-append (key ++ showList xs) (lineFeed ∷ []), length-append key (showList xs))
+    (omega (arith, list-short xs))
 
-pub end-length : (l : List ℕ) (ls : List (List ℕ)) → length (endEach lineFeed (l ∷ ls)) ≡ length (line l) + length (endEach lineFeed ls)
+pub end-length : (l : List ℕ) (ls : List (List ℕ))
+    → length (endEach lineFeed (l ∷ ls)) ≡ length (line l) + length (endEach lineFeed ls)
 unfolding endEach line
-end-length l ls = sym (ap length (append-assoc l (lineFeed ∷ []) (endEach lineFeed ls))) ∙ length-append (l ++ (lineFeed ∷ [])) (endEach lineFeed ls)
+end-length l ls =
+    sym (ap length (append-assoc l (lineFeed ∷ []) (endEach lineFeed ls)))
+    ∙ length-append (l ++ (lineFeed ∷ [])) (endEach lineFeed ls)
+
+pub end-append : (a b : List (List ℕ)) → endEach lineFeed (a ++ b) ≡ endEach lineFeed a ++ endEach lineFeed b
+unfolding endEach
+end-append [] b = refl
+end-append (l ∷ a) b =
+    ap (λ (t : List ℕ). l ++ (lineFeed ∷ t)) (end-append a b)
+    ∙ sym (append-assoc l (lineFeed ∷ endEach lineFeed a) (endEach lineFeed b))
 
 pub end-none : length (endEach lineFeed []) ≡ 0
 unfolding endEach

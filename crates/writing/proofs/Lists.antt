@@ -2,17 +2,18 @@
 use Prim.Native.Nat.{ℕ, zero, suc, _+_, _*_, _≤_, _<_, _^_}
 use native.Mathlib.Omega.{arith}
 use native.Mathlib.Numerals.{add-one}
-use mathlib.Core.Path.{_≡_, refl}
+use mathlib.Core.Path.{_≡_, refl, ap}
 use mathlib.Core.List.{List, [], _∷_, _++_, map, append-assoc, append-nil}
-use lib.ListN.{length, take, getD, length-append, length-take, drop-of-length-le}
-use lib.Seq.{drop-cons, getD-take}
+use lib.ListN.{length, take, getD, length-append, drop-of-length-le}
+use lib.Seq.{drop-cons}
 use lib.IntN.{ℤ, pos, natAbs}
-use Rattle.integers.specs.Ranges.{Within}
+use Rattle.lists.specs.Loops.{tab}
 use Rattle.digits.specs.Bytes.{comma}
 use Rattle.digits.specs.Number.{digitsMax}
 use Rattle.digits.specs.Show.{showNumber}
 use Rattle.digits.proofs.Show.{number-short}
 use Rattle.text.specs.Lists.{afterCommas, joined, showList, Small}
+use Rattle.reading.specs.NumberLines.{placed}
 use Rattle.writing.specs.Wrote.{showMore}
 
 pub small-at : (xs : List ℤ) (i : ℕ) → Small xs → i < length xs → natAbs (getD xs i (pos 0)) < 10 ^ digitsMax
@@ -21,17 +22,12 @@ small-at [] i s h = absurd (omega arith)
 small-at (x ∷ xs) zero s h = s .0
 small-at (x ∷ xs) (suc i) s h = small-at xs i (s .1) (omega arith)
 
-small-each : (xs : List ℤ) → ((i : ℕ) → i < length xs → natAbs (getD xs i (pos 0)) < 10 ^ digitsMax) → Small xs
-unfolding Small
-small-each [] h = tt
-small-each (x ∷ xs) h = (h zero (omega arith), small-each xs (λ i l. h (suc i) (omega arith)))
-
--- the live places of a row that is within a size of at most nine digits
-pub small-row : (xs : List ℤ) (n B : ℕ) → B < 10 ^ digitsMax → ((i : ℕ) → i < n → Within (getD xs i (pos 0)) B) → Small (take n xs)
-small-row xs n B b w =
-    small-each (take n xs) (λ i l.
-    let h : i < n = omega (arith, length-take n xs) in
-    rw (getD-take n xs i (pos 0) h) (omega (arith, w i h .abs)))
+-- the first n numbers, as a slice has them
+pub taken-first : (n : ℕ) (xs : List ℤ) → n ≤ length xs → take n xs ≡ placed n n xs
+unfolding tab
+taken-first zero xs h = refl
+taken-first (suc n) [] h = absurd (omega arith)
+taken-first (suc n) (x ∷ xs) h = ap (λ (l : List ℤ). x ∷ l) (taken-first n xs (omega arith))
 
 -- one number more
 pub more-one : (xs : List ℤ) (i : ℕ) (done : List ℕ) → i < length xs
@@ -57,9 +53,13 @@ list-some (x ∷ xs) n = refl
 after-short : (xs : List ℤ) → length (afterCommas (map showNumber xs)) ≤ (digitsMax + 2) * length xs
 unfolding afterCommas
 after-short [] = omega arith
-after-short (v ∷ vs) = rw (length-append (showNumber v) (afterCommas (map showNumber vs))) (omega (arith, number-short v, after-short vs))
+after-short (v ∷ vs) =
+    rw (length-append (showNumber v) (afterCommas (map showNumber vs)))
+    (omega (arith, number-short v, after-short vs))
 
 pub list-short : (xs : List ℤ) → length (showList xs) ≤ (digitsMax + 2) * length xs
 unfolding showList joined
 list-short [] = omega arith
-list-short (v ∷ vs) = rw (length-append (showNumber v) (afterCommas (map showNumber vs))) (omega (arith, number-short v, after-short vs))
+list-short (v ∷ vs) =
+    rw (length-append (showNumber v) (afterCommas (map showNumber vs)))
+    (omega (arith, number-short v, after-short vs))

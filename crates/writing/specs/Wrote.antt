@@ -2,7 +2,7 @@
 use Prim.Native.Nat.{ℕ, _+_, _*_, _≤_, _<_}
 use mathlib.Core.Path.{_≡_}
 use mathlib.Core.List.{List, [], _∷_, _++_, map}
-use lib.ListN.{length, take, drop}
+use lib.ListN.{length, drop}
 use lib.Seq.{sets}
 use lib.IntN.{ℤ}
 use Rattle.sizes.specs.Sizes.{nMax}
@@ -10,6 +10,7 @@ use Rattle.digits.specs.Bytes.{lineFeed}
 use Rattle.digits.specs.Number.{digitsMax}
 use Rattle.digits.specs.Show.{showNumber}
 use Rattle.text.specs.Lists.{afterCommas, Small}
+use Rattle.reading.specs.NumberLines.{placed}
 
 -- no text reaches this place, and a usize holds far more
 abbrev pub placeMax : ℕ
@@ -32,4 +33,4 @@ line l = l ++ (lineFeed ∷ [])
 pub record RowFits (at : ℕ) (key : List ℕ) (row : List ℤ) (n : ℕ) : Type 0 where
   pub few : n ≤ nMax
   pub room : at + length key + (digitsMax + 2) * (1 + nMax) < placeMax
-  pub small : Small (take n row)
+  pub small : Small (placed n n row)

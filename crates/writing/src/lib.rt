@@ -1,21 +1,16 @@
-// Writing into a lent buffer, byte by byte. A byte past the buffer's end is counted and not written, so that the same functions measure a text.
+// Writing into a lent buffer, byte by byte. A byte past the buffer's end is counted and not written, so that the same
+// functions measure a text.
 ghost use mathlib.Core.Path.{_≡_};
 ghost use mathlib.Core.List.{[], _∷_, _++_};
 ghost use Prim.Native.Nat.{_+_, _*_, _≤_, _<_, _^_};
-ghost use lib.ListN.{length, take};
+ghost use lib.ListN.{length};
 ghost use lib.IntN.{natAbs};
 ghost use Rattle.digits.specs.Number.{digitsMax};
 ghost use Rattle.digits.specs.Show.{showMagnitude, showNumber};
 ghost use Rattle.text.specs.Lists.{showList, Small};
+ghost use Rattle.reading.specs.NumberLines.{placed};
 ghost use Rattle.writing.specs.Wrote.{placeMax, Wrote, showMore, line, RowFits};
-use jobs::Status;
 use sizes::N;
-
-// The answer of a text's writer: how many bytes were written, 0 beside a fault.
-pub struct Written {
-    pub status: Status,
-    pub len: usize,
-}
 
 // One byte at its place, if there is one.
 pub fn put_byte(buf: &mut [u8], at: usize, b: u8) -> usize
@@ -43,19 +38,37 @@ pub fn put_bytes(buf: &mut [u8], at: usize, bs: &[u8]) -> usize
     p
 }
 
-// The digits of m, at most k.
+// How many digits m has, at most k. A tenth of m is compared, so that the bound never passes m.
+fn digits_of(m: u64, k: usize) -> usize
+    ensures { λ r. ⌜ r ≡ length (showMagnitude k m) ⌝ }
+{
+    let tenth = m / 10;
+    let mut bound: u64 = 1;
+    let mut i = 0;
+    while i < k {
+        if tenth < bound {
+            return i + 1;
+        }
+        bound = bound * 10;
+        i += 1;
+    }
+    k
+}
+
+// The digits of m, at most k, from the last to the first.
 pub fn put_magnitude(buf: &mut [u8], at: usize, m: u64, k: usize) -> usize
     requires { ⌜ at + k ≤ placeMax ⌝ }
     ensures { λ r. ⌜ Wrote (now (buf .entry)) (now (buf .exit)) at r (showMagnitude k m) ⌝ }
 {
-    if k == 0 {
-        return at;
+    let end = at + digits_of(m, k);
+    let mut left = m;
+    let mut p = end;
+    while at < p {
+        p -= 1;
+        put_byte(buf, p, (48 + left % 10) as u8);
+        left = left / 10;
     }
-    if m < 10 {
-        return put_byte(buf, at, (48 + m) as u8);
-    }
-    let next = put_magnitude(buf, at, m / 10, k - 1);
-    put_byte(buf, next, (48 + m % 10) as u8)
+    end
 }
 
 // A number of at most nine digits.
@@ -113,7 +126,8 @@ pub fn put_word_line(buf: &mut [u8], at: usize, key: &[u8], word: &[u8]) -> usiz
 // A line: a key, a count and LF.
 pub fn put_count_line(buf: &mut [u8], at: usize, key: &[u8], m: u64) -> usize
     requires { ⌜ at + length (now key) + digitsMax < placeMax ⌝ }
-    ensures { λ r. ⌜ Wrote (now (buf .entry)) (now (buf .exit)) at r (line (now (key .entry) ++ showMagnitude digitsMax m)) ⌝ }
+    ensures { λ r. ⌜ Wrote (now (buf .entry)) (now (buf .exit)) at r
+        (line (now (key .entry) ++ showMagnitude digitsMax m)) ⌝ }
 {
     let a = put_bytes(buf, at, key);
     let b = put_magnitude(buf, a, m, digits::DIGITS);
@@ -123,7 +137,8 @@ pub fn put_count_line(buf: &mut [u8], at: usize, key: &[u8], m: u64) -> usize
 // A line: a key, a list and LF.
 pub fn put_list_line(buf: &mut [u8], at: usize, key: &[u8], xs: &[i64]) -> usize
     requires { ⌜ (at + length (now key) + (digitsMax + 2) * (1 + length (now xs)) < placeMax) × Small (now xs) ⌝ }
-    ensures { λ r. ⌜ Wrote (now (buf .entry)) (now (buf .exit)) at r (line (now (key .entry) ++ showList (now (xs .entry)))) ⌝ }
+    ensures { λ r. ⌜ Wrote (now (buf .entry)) (now (buf .exit)) at r
+        (line (now (key .entry) ++ showList (now (xs .entry)))) ⌝ }
 {
     let a = put_bytes(buf, at, key);
     let b = put_list(buf, a, xs);
@@ -133,7 +148,8 @@ pub fn put_list_line(buf: &mut [u8], at: usize, key: &[u8], xs: &[i64]) -> usize
 // A line: a key, the first n of a row and LF.
 pub fn put_row_line(buf: &mut [u8], at: usize, key: &[u8], row: [i64; N], n: usize) -> usize
     requires { ⌜ RowFits at (now key) row n ⌝ }
-    ensures { λ r. ⌜ Wrote (now (buf .entry)) (now (buf .exit)) at r (line (now (key .entry) ++ showList (take n row))) ⌝ }
+    ensures { λ r. ⌜ Wrote (now (buf .entry)) (now (buf .exit)) at r
+        (line (now (key .entry) ++ showList (placed n n row))) ⌝ }
 {
     put_list_line(buf, at, key, &row[..n])
 }

@@ -2,6 +2,7 @@
 use borrow.Author.Needs.{needs}
 use Rattle.desk.specs.Desk.{jobStatus, jobText}
 use Rattle.desk.proofs.Answer.{read-bad, read-good}
+use Rattle.desk.proofs.Taken.{job-taken}
 use Rattle.desk.proofs.rewrite_job.Statement.{statement}
 use Rattle.desk.proofs.rewrite_job.Tie as tie
 
@@ -14,8 +15,10 @@ enum-known-status c = search needs
 enum-told : tie.Need-enum-told
 enum-told c = search needs
 
-write-job-requires : tie.Need-write-job-requires
-write-job-requires c κs = search needs
+write-ready-requires : tie.Need-write-ready-requires
+write-ready-requires c κs =
+    let read = c .before .before .before in
+    job-taken _ (read .read-job .ensures) (c .before .enum-told .given .1)
 
 returns : tie.Need-returns
 unfolding jobStatus jobText
@@ -28,8 +31,9 @@ returns-2 : tie.Need-returns-2
 unfolding jobStatus jobText
 returns-2 c =
     let read = c .before .before .before .before .before .before in
-    rw (← read .read-job .ensures)
-    (read-good (c .before .before .before .before .enum-told .given .1) (c .before .before .write-job .ensures))
+    let done = c .before .before .before .before .enum-told .given .1 in
+    let taken = job-taken _ (read .read-job .ensures) done in
+    rw (← read .read-job .ensures) (read-good done (rw taken (c .before .before .write-ready .ensures)))
 
 pub rewrite-job-spec : {M : Type 1} → statement M
 rewrite-job-spec =
@@ -38,7 +42,7 @@ rewrite-job-spec =
     read-job-requires
     enum-known-status
     enum-told
-    write-job-requires
+    write-ready-requires
     returns
     same-length
     returns-2)

@@ -2,6 +2,7 @@
 use borrow.Author.Needs.{needs}
 use Rattle.desk.specs.Desk.{resultStatus, resultText}
 use Rattle.desk.proofs.Answer.{read-bad, read-good}
+use Rattle.desk.proofs.Taken.{result-taken}
 use Rattle.desk.proofs.rewrite_result.Statement.{statement}
 use Rattle.desk.proofs.rewrite_result.Tie as tie
 
@@ -14,8 +15,10 @@ enum-known-status c = search needs
 enum-told : tie.Need-enum-told
 enum-told c = search needs
 
-write-result-requires : tie.Need-write-result-requires
-write-result-requires c κs = search needs
+write-ready-requires : tie.Need-write-ready-requires
+write-ready-requires c κs =
+    let read = c .before .before .before in
+    result-taken _ (read .read-result .ensures) (c .before .enum-told .given .1)
 
 returns : tie.Need-returns
 unfolding resultStatus resultText
@@ -28,8 +31,9 @@ returns-2 : tie.Need-returns-2
 unfolding resultStatus resultText
 returns-2 c =
     let read = c .before .before .before .before .before .before in
-    rw (← read .read-result .ensures)
-    (read-good (c .before .before .before .before .enum-told .given .1) (c .before .before .write-result .ensures))
+    let done = c .before .before .before .before .enum-told .given .1 in
+    let taken = result-taken _ (read .read-result .ensures) done in
+    rw (← read .read-result .ensures) (read-good done (rw taken (c .before .before .write-ready .ensures)))
 
 pub rewrite-result-spec : {M : Type 1} → statement M
 rewrite-result-spec =
@@ -38,7 +42,7 @@ rewrite-result-spec =
     read-result-requires
     enum-known-status
     enum-told
-    write-result-requires
+    write-ready-requires
     returns
     same-length
     returns-2)

@@ -2,6 +2,7 @@
 use borrow.Author.Needs.{needs}
 use Rattle.desk.specs.Desk.{solveStatus, solveText}
 use Rattle.desk.proofs.Answer.{read-bad, read-good}
+use Rattle.desk.proofs.Taken.{job-taken}
 use Rattle.desk.proofs.solve.Statement.{statement}
 use Rattle.desk.proofs.solve.Tie as tie
 
@@ -15,7 +16,9 @@ enum-told : tie.Need-enum-told
 enum-told c = search needs
 
 write-run-requires : tie.Need-write-run-requires
-write-run-requires c κs = search needs
+write-run-requires c κs =
+    let read = c .before .before .before in
+    job-taken _ (read .read-job .ensures) (c .before .enum-told .given .1)
 
 returns : tie.Need-returns
 unfolding solveStatus solveText

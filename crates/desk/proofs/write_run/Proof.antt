@@ -1,44 +1,33 @@
 -- `desk::write_run` meets its contract.
 use borrow.Author.Needs.{needs}
+use mathlib.Core.Path.{_≡_, refl}
+use Rattle.faults.specs.declared.Status.{Status}
+use Rattle.jobs.specs.CheckResult.{checkResult}
+use Rattle.run.proofs.JobLaws.{answer-done}
+use Rattle.promises.proofs.Results.{result-checked}
 use Rattle.desk.specs.Desk.{runStatus, runText}
-use Rattle.desk.proofs.Answer.{read-bad, read-good}
+use Rattle.desk.proofs.Answer.{read-good}
 use Rattle.desk.proofs.write_run.Statement.{statement}
 use Rattle.desk.proofs.write_run.Tie as tie
 
-run-requires : tie.Need-run-requires
-run-requires c κs = search needs
+accepted-requires : tie.Need-accepted-requires
+accepted-requires c κs = search needs
 
-enum-known-status : tie.Need-enum-known-status
-enum-known-status c = search needs
-
-enum-told : tie.Need-enum-told
-enum-told c = search needs
-
-write-result-requires : tie.Need-write-result-requires
-write-result-requires c κs = search needs
-
-returns : tie.Need-returns
-unfolding runStatus runText
-returns c = rw (← c .before .before .before .run .ensures) (read-bad _ (c .before .status .given .1))
+write-ready-requires : tie.Need-write-ready-requires
+write-ready-requires c κs =
+    let s = c .before .before .before in
+    rw (c .before .accepted .ensures) (result-checked (s .args .j) (s .pre))
 
 same-length : tie.Need-same-length
 same-length c = search needs
 
-returns-2 : tie.Need-returns-2
+returns : tie.Need-returns
 unfolding runStatus runText
-returns-2 c =
-    let read = c .before .before .before .before .before .before in
-    rw (← read .run .ensures)
-    (read-good (c .before .before .before .before .enum-told .given .1) (c .before .before .write-result .ensures))
+returns c =
+    let a = c .before .before .before .before in
+    let s = a .before .before in
+    let checked : checkResult (a .accepted .result) ≡ Status.Done = rw (a .accepted .ensures) (result-checked (s .args .j) (s .pre)) in
+    rw (← answer-done (s .args .j) (s .pre) (a .accepted .ensures)) (read-good refl (rw checked (c .before .before .write-ready .ensures)))
 
 pub write-run-spec : {M : Type 1} → statement M
-write-run-spec =
-    tie.close
-    (tie.spec
-    run-requires
-    enum-known-status
-    enum-told
-    write-result-requires
-    returns
-    same-length
-    returns-2)
+write-run-spec = tie.close (tie.spec accepted-requires write-ready-requires same-length returns)

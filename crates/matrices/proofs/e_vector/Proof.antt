@@ -39,30 +39,35 @@ loop2-holds : tie.Need-loop2-holds Inv-loop2 μ-loop2 Inv-loop μ-loop
 unfolding dotI
 loop2-holds c = (omega arith, sumI-none _)
 
-mul-mul-wide : tie.Need-mul-mul-wide Inv-loop2 μ-loop2 Inv-loop μ-loop
-mul-mul-wide c = omega arith
+mul-mul-around : tie.Need-mul-mul-around Inv-loop2 μ-loop2 Inv-loop μ-loop
+mul-mul-around c = omega arith
 
-array-copy-out-mul-wide : tie.Need-array-copy-out-mul-wide Inv-loop2 μ-loop2 Inv-loop μ-loop
-array-copy-out-mul-wide c = omega arith
+array-copy-out-mul-around : tie.Need-array-copy-out-mul-around Inv-loop2 μ-loop2 Inv-loop μ-loop
+array-copy-out-mul-around c = omega arith
 
-mul-mul-wide-2 : tie.Need-mul-mul-wide-2 Inv-loop2 μ-loop2 Inv-loop μ-loop
-mul-mul-wide-2 c = omega arith
+mul-mul-around-2 : tie.Need-mul-mul-around-2 Inv-loop2 μ-loop2 Inv-loop μ-loop
+mul-mul-around-2 c = omega arith
 
-array-copy-out-mul-wide-2 : tie.Need-array-copy-out-mul-wide-2 Inv-loop2 μ-loop2 Inv-loop μ-loop
-array-copy-out-mul-wide-2 c = omega arith
+array-copy-out-mul-around-2 : tie.Need-array-copy-out-mul-around-2 Inv-loop2 μ-loop2 Inv-loop μ-loop
+array-copy-out-mul-around-2 c = omega arith
 
-mul-wide-requires : tie.Need-mul-wide-requires Inv-loop2 μ-loop2 Inv-loop μ-loop
-mul-wide-requires c κs =
+mul-around-requires : tie.Need-mul-around-requires Inv-loop2 μ-loop2 Inv-loop μ-loop
+mul-around-requires c κs =
     let t = c .before .before in
     let o = t .before .before .before in
-    product-fits (dot-e (o .before .before .pre) (o .before .loop .i) (o .loop-test .taken)) (t .before .loop2 .k) (t .loop2-test .taken)
+    let pre = o .before .before .pre in
+    let k = t .before .loop2 .k in
+    record {
+      exact = product-fits (dot-e pre (o .before .loop .i) (o .loop-test .taken)) k (t .loop2-test .taken);
+      around = pre .around k (t .loop2-test .taken);
+    }
 
 add-requires : tie.Need-add-requires Inv-loop2 μ-loop2 Inv-loop μ-loop
 add-requires c κs =
     let t = c .before .before .before in
     let o = t .before .before .before in
     let within = dot-e (o .before .before .pre) (o .before .loop .i) (o .loop-test .taken) in
-    more-fits within (t .before .loop2 .k) (t .loop2-test .taken) (t .before .loop2 .inv .1) (c .mul-wide .ensures)
+    more-fits within (t .before .loop2 .k) (t .loop2-test .taken) (t .before .loop2 .inv .1) (c .mul-around .ensures)
 
 add-k : tie.Need-add-k Inv-loop2 μ-loop2 Inv-loop μ-loop
 add-k c = omega arith
@@ -74,7 +79,7 @@ loop2-again : tie.Need-loop2-again Inv-loop2 μ-loop2 Inv-loop μ-loop
 unfolding dotI
 loop2-again c =
     let a = c .before .before .before in
-    (omega arith, sumI-more _ _ (c .add .ensures) (a .before .before .loop2 .inv .1) (c .before .mul-wide .ensures))
+    (omega arith, sumI-more _ _ (c .add .ensures) (a .before .before .loop2 .inv .1) (c .before .mul-around .ensures))
 
 outward-requires : tie.Need-outward-requires Inv-loop2 μ-loop2 Inv-loop μ-loop
 unfolding dotI
@@ -119,11 +124,11 @@ e-vector-spec =
     mul-row
     array-copy-out-row
     loop2-holds
-    mul-mul-wide
-    array-copy-out-mul-wide
-    mul-mul-wide-2
-    array-copy-out-mul-wide-2
-    mul-wide-requires
+    mul-mul-around
+    array-copy-out-mul-around
+    mul-mul-around-2
+    array-copy-out-mul-around-2
+    mul-around-requires
     add-requires
     add-k
     loop2-less

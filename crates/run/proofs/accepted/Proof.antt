@@ -15,21 +15,34 @@ matrix-requires c κs = let s = c .before .before in check-done (s .args .j) (s 
 start-box-requires : tie.Need-start-box-requires
 start-box-requires c κs = let s = c .before .before .before in check-done (s .args .j) (s .pre) .few
 
+bounded-requires : tie.Need-bounded-requires
+bounded-requires c κs =
+    let s = c .before .before .before .before in
+    let good = check-done (s .args .j) (s .pre) in
+    (good .some, good .few)
+
 run-steps-requires : tie.Need-run-steps-requires
 run-steps-requires c κs =
-    let e = c .before .before in
+    let e = c .before .before .before in
     let s = e .before .before in
-    step-in (s .args .j) (s .pre) (e .equations .ensures) (c .before .matrix .ensures) (c .start-box .ensures)
+    rw (c .bounded .ensures)
+    (step-in (s .args .j) (s .pre) (e .equations .ensures) (c .before .before .matrix .ensures)
+    (c .before .start-box .ensures))
 
 result-of-requires : tie.Need-result-of-requires
-result-of-requires c κs = let s = c .before .before .before .before .before in check-done (s .args .j) (s .pre) .few
+result-of-requires c κs =
+    let s = c .before .before .before .before .before .before in
+    check-done (s .args .j) (s .pre) .few
 
 returns : tie.Need-returns
 returns c =
-    let e = c .before .before .before .before in
+    let x = c .before .before .before in
+    let e = x .before .before in
     let s = e .before .before in
-    let made = outcome-made (s .args .j) (s .pre) (e .equations .ensures) (c .before .before .before .matrix .ensures) (c .before .before .start-box .ensures) in
-    c .result-of .ensures ∙ ap (resultOf (s .args .j)) (c .before .run-steps .ensures ∙ made)
+    let made = outcome-made (s .args .j) (s .pre) (e .equations .ensures) (x .before .matrix .ensures)
+    (x .start-box .ensures) in
+    c .result-of .ensures
+    ∙ ap (resultOf (s .args .j)) (rw (c .before .before .bounded .ensures) at (c .before .run-steps .ensures) ∙ made)
 
 pub accepted-spec : {M : Type 1} → statement M
 accepted-spec =
@@ -38,6 +51,7 @@ accepted-spec =
     equations-requires
     matrix-requires
     start-box-requires
+    bounded-requires
     run-steps-requires
     result-of-requires
     returns)

@@ -1,98 +1,214 @@
--- run_steps: the run from here on equals the whole run, and the box stays in range.
+-- run_steps: the run from here on equals the whole run, and the box stays in range. Within a turn F and S are filled
+-- equation by equation.
 use mathlib.Core.Path.{_≡_, sym, _∙_}
-use Prim.Native.Nat.{_≤_, _-_}
+use mathlib.Core.List.{List}
+use Prim.Native.Nat.{ℕ, _≤_, _-_}
 use native.Mathlib.Nat.{sub-zero}
 use native.Mathlib.Omega.{arith}
 use borrow.Author.Needs.{needs}
+use lib.ListN.{replicate}
+use Rattle.sizes.specs.Sizes.{nMax}
+use Rattle.lists.specs.Loops.{tab}
+use Rattle.lists.proofs.Tab.{tab-none, tab-more, tab-done}
+use Rattle.intervals.specs.declared.Interval.{Interval}
+use Rattle.intervals.specs.Interval.{zeroI}
 use Rattle.intervals.specs.Places.{entryAt, sideAt}
+use Rattle.jobs.specs.declared.Equation.{Equation}
 use Rattle.jobs.specs.Places.{equationAt}
-use Rattle.run.specs.Run.{runOf}
+use Rattle.systems.specs.Terms.{equationOver, valuesOver, slopeRow, slopesOver}
+use Rattle.run.specs.Run.{imageBox, runOf}
 use Rattle.run.specs.Ranges.{StepIn}
+use Rattle.run.proofs.Image.{m-in, asked, image-is}
 use Rattle.run.proofs.Turns.{turned, run-turn, run-end, next-box}
 use Rattle.run.proofs.run_steps.Statement.{statement}
 use Rattle.run.proofs.run_steps.Tie as tie
 
+-- F and S of the first i equations
+record Filled (n i : ℕ) (q : ℕ → Equation) (M X : ℕ → Interval)
+    (f : List Interval) (s : List (List Interval)) : Type 0 where
+  few : i ≤ n
+  values : f ≡ tab nMax i zeroI (λ k. equationOver n (q k) M)
+  slopes : s ≡ tab nMax i (replicate nMax zeroI) (λ k. slopeRow n (q k) X)
+
+abbrev Inv-loop2 : tie.InvT-loop2
+Inv-loop2 c n allowance eqs x done m f₀ s₀ i₀ f s i = Filled n i (equationAt eqs) (sideAt m) (sideAt x) f s
+
+abbrev μ-loop2 : tie.MeasureT-loop2
+μ-loop2 c n allowance eqs x done m f₀ s₀ i₀ f s i = n - i
+
 abbrev Inv-loop : tie.InvT-loop
-Inv-loop eqs c n allowance x₀ done₀ x done =
+Inv-loop c n allowance eqs x₀ done₀ x done =
     let q = equationAt eqs in
     (done ≤ allowance) × (StepIn n q (entryAt c) (sideAt x) × (runOf n q (entryAt c) (allowance - done) done x ≡ runOf n q (entryAt c) allowance 0 x₀))
 
 abbrev μ-loop : tie.MeasureT-loop
-μ-loop eqs c n allowance x₀ done₀ x done = allowance - done
+μ-loop c n allowance eqs x₀ done₀ x done = allowance - done
 
-loop-holds : tie.Need-loop-holds Inv-loop μ-loop
+loop-holds : tie.Need-loop-holds Inv-loop2 μ-loop2 Inv-loop μ-loop
 loop-holds c = (omega arith, (c .pre, rw sub-zero))
 
 -- the allowance is used up
-ended-requires-4 : tie.Need-ended-requires-4 Inv-loop μ-loop
+ended-requires-4 : tie.Need-ended-requires-4 Inv-loop2 μ-loop2 Inv-loop μ-loop
 ended-requires-4 c κs = search needs
 
-returns-4 : tie.Need-returns-4 Inv-loop μ-loop
+returns-4 : tie.Need-returns-4 Inv-loop2 μ-loop2 Inv-loop μ-loop
 returns-4 c =
     let l = c .before .before .loop in
     c .ended4 .ensures ∙ sym (sym (l .inv .1 .1) ∙ run-end _ _ _ _ _ _ (l .inv .0) (omega arith))
 
 -- ---- a turn
-image-requires : tie.Need-image-requires Inv-loop μ-loop
-image-requires c κs = c .before .loop .inv .1 .0
+middles-requires : tie.Need-middles-requires Inv-loop2 μ-loop2 Inv-loop μ-loop
+middles-requires c κs = c .before .loop .inv .1 .0 .box
 
-decide-requires : tie.Need-decide-requires Inv-loop μ-loop
-decide-requires c κs = c .before .before .loop .inv .1 .0 .box .places
+-- F and S
+loop2-holds : tie.Need-loop2-holds Inv-loop2 μ-loop2 Inv-loop μ-loop
+loop2-holds c = record {
+  few = omega arith;
+  values = tab-none zeroI nMax _;
+  slopes = tab-none (replicate nMax zeroI) nMax _;
+}
 
-add-steps : tie.Need-add-steps Inv-loop μ-loop
+mul-q : tie.Need-mul-q Inv-loop2 μ-loop2 Inv-loop μ-loop
+mul-q c = let p = c .before .before .before .before .loop .inv .1 .0 .box .places in omega arith
+
+array-copy-out-q : tie.Need-array-copy-out-q Inv-loop2 μ-loop2 Inv-loop μ-loop
+array-copy-out-q c = let p = c .before .before .before .before .loop .inv .1 .0 .box .places in omega arith
+
+equation-over-requires : tie.Need-equation-over-requires Inv-loop2 μ-loop2 Inv-loop μ-loop
+equation-over-requires c κs =
+    let m = c .before .before .before in
+    let h = m .before .before .loop .inv .1 .0 in
+    (m-in h (m .middles .ensures), h .system .each (c .before .before .loop2 .i) (c .before .loop2-test .taken))
+
+mul-f : tie.Need-mul-f Inv-loop2 μ-loop2 Inv-loop μ-loop
+mul-f c = let p = c .before .before .before .before .before .before .loop .inv .1 .0 .box .places in omega arith
+
+array-set-from-f : tie.Need-array-set-from-f Inv-loop2 μ-loop2 Inv-loop μ-loop
+array-set-from-f c =
+    let p = c .before .before .before .before .before .before .loop .inv .1 .0 .box .places in
+    omega arith
+
+slope-row-requires : tie.Need-slope-row-requires Inv-loop2 μ-loop2 Inv-loop μ-loop
+slope-row-requires c κs =
+    let t = c .before .before in
+    let h = t .before .before .before .before .loop .inv .1 .0 in
+    (h .box, h .system .each (t .before .loop2 .i) (t .loop2-test .taken))
+
+mul-s : tie.Need-mul-s Inv-loop2 μ-loop2 Inv-loop μ-loop
+mul-s c =
+    let p = c .before .before .before .before .before .before .before .loop .inv .1 .0 .box .places in
+    omega arith
+
+array-set-from-s : tie.Need-array-set-from-s Inv-loop2 μ-loop2 Inv-loop μ-loop
+array-set-from-s c =
+    let p = c .before .before .before .before .before .before .before .loop .inv .1 .0 .box .places in
+    omega arith
+
+add-i : tie.Need-add-i Inv-loop2 μ-loop2 Inv-loop μ-loop
+add-i c = omega arith
+
+loop2-less : tie.Need-loop2-less Inv-loop2 μ-loop2 Inv-loop μ-loop
+loop2-less c = omega arith
+
+loop2-again : tie.Need-loop2-again Inv-loop2 μ-loop2 Inv-loop μ-loop
+loop2-again c =
+    let l = c .before .before .before .before in
+    let p = l .before .before .before .loop .inv .1 .0 .box .places in
+    record {
+      few = omega arith;
+      values = tab-more zeroI nMax _ _ (omega arith) (l .loop2 .inv .values) (c .before .equation-over .ensures);
+      slopes = tab-more (replicate nMax zeroI) nMax _ _ (omega arith) (l .loop2 .inv .slopes) (c .slope-row .ensures);
+    }
+
+made-f : (c : tie.After-loop2 Inv-loop2 μ-loop2 Inv-loop μ-loop)
+    → let a = c .before .before .before .before .before .args in
+    c .before .loop2 .f ≡ valuesOver (a .n) (equationAt (a .t1)) (sideAt (c .before .before .middles .result))
+unfolding valuesOver
+made-f c = let l = c .before .loop2 in tab-done zeroI nMax _ (l .inv .few) (c .loop2-test .left) (l .inv .values)
+
+made-s : (c : tie.After-loop2 Inv-loop2 μ-loop2 Inv-loop μ-loop)
+    → let a = c .before .before .before .before .before .args in
+    c .before .loop2 .s ≡ slopesOver (a .n) (equationAt (a .t1)) (sideAt (c .before .before .before .before .loop .x))
+unfolding slopesOver
+made-s c =
+    let l = c .before .loop2 in
+    tab-done (replicate nMax zeroI) nMax _ (l .inv .few) (c .loop2-test .left) (l .inv .slopes)
+
+-- K
+image-requires : tie.Need-image-requires Inv-loop2 μ-loop2 Inv-loop μ-loop
+image-requires c κs =
+    let m = c .before .before in
+    asked (m .before .before .loop .inv .1 .0) (m .middles .ensures) (made-f c) (made-s c)
+
+imaged : (c : tie.After-image Inv-loop2 μ-loop2 Inv-loop μ-loop)
+    → let a = c .before .before .before .before .before .before .args in
+    c .image .result
+    ≡ imageBox (a .n) (equationAt (a .t1)) (entryAt (a .c)) (c .before .before .before .before .before .loop .x)
+unfolding imageBox
+imaged c =
+    let l = c .before in
+    let m = l .before .before in
+    c .image .ensures ∙ image-is (m .before .before .loop .inv .1 .0) (m .middles .ensures) (made-f l) (made-s l)
+
+decide-requires : tie.Need-decide-requires Inv-loop2 μ-loop2 Inv-loop μ-loop
+decide-requires c κs = c .before .before .before .before .before .loop .inv .1 .0 .box .places
+
+add-steps : tie.Need-add-steps Inv-loop2 μ-loop2 Inv-loop μ-loop
 add-steps c = omega arith
 
 -- the whole run, at the decision of a turn
-decided : (c : tie.After-decide Inv-loop μ-loop) → let s = c .before .before .before .before .args in
-    runOf (s .n) (equationAt (s .eqs)) (entryAt (s .c)) (s .allowance) 0 (s .start)
-    ≡ turned (s .n) (equationAt (s .eqs)) (entryAt (s .c)) (s .allowance) (c .before .before .before .loop .done) (c .decide .result)
+decided : (c : tie.After-decide Inv-loop2 μ-loop2 Inv-loop μ-loop)
+    → let s = c .before .before .before .before .before .before .before .args in
+    runOf (s .n) (equationAt (s .t1)) (entryAt (s .c)) (s .allowance) 0 (s .start)
+    ≡ turned (s .n) (equationAt (s .t1)) (entryAt (s .c)) (s .allowance)
+    (c .before .before .before .before .before .before .loop .done) (c .decide .result)
 decided c =
-    let l = c .before .before .before .loop in
-    let s = c .before .before .before .before .args in
-    run-turn _ _ _ (s .allowance) (l .done) (l .x) (omega arith) (c .before .image .ensures) (c .decide .ensures)
-    (l .inv .1 .1)
+    let l = c .before .before .before .before .before .before in
+    run-turn _ _ _ (l .before .args .allowance) (l .loop .done) (l .loop .x) (omega arith)
+    (imaged (c .before)) (c .decide .ensures)
+    (l .loop .inv .1 .1)
 
-enum-told : tie.Need-enum-told Inv-loop μ-loop
+enum-told : tie.Need-enum-told Inv-loop2 μ-loop2 Inv-loop μ-loop
 enum-told c = search needs
 
-ended-requires : tie.Need-ended-requires Inv-loop μ-loop
+ended-requires : tie.Need-ended-requires Inv-loop2 μ-loop2 Inv-loop μ-loop
 ended-requires c κs = search needs
 
-returns : tie.Need-returns Inv-loop μ-loop
+returns : tie.Need-returns Inv-loop2 μ-loop2 Inv-loop μ-loop
 returns c = c .ended .ensures ∙ sym (rw (c .before .enum-told .given .1) at (decided (c .before .before .before .before)))
 
-enum-told-2 : tie.Need-enum-told-2 Inv-loop μ-loop
+enum-told-2 : tie.Need-enum-told-2 Inv-loop2 μ-loop2 Inv-loop μ-loop
 enum-told-2 c = search needs
 
-ended-requires-2 : tie.Need-ended-requires-2 Inv-loop μ-loop
+ended-requires-2 : tie.Need-ended-requires-2 Inv-loop2 μ-loop2 Inv-loop μ-loop
 ended-requires-2 c κs = search needs
 
-returns-2 : tie.Need-returns-2 Inv-loop μ-loop
+returns-2 : tie.Need-returns-2 Inv-loop2 μ-loop2 Inv-loop μ-loop
 returns-2 c = c .ended2 .ensures ∙ sym (rw (c .before .enum-told2 .given .1) at (decided (c .before .before .before .before)))
 
-enum-told-3 : tie.Need-enum-told-3 Inv-loop μ-loop
+enum-told-3 : tie.Need-enum-told-3 Inv-loop2 μ-loop2 Inv-loop μ-loop
 enum-told-3 c = search needs
 
-ended-requires-3 : tie.Need-ended-requires-3 Inv-loop μ-loop
+ended-requires-3 : tie.Need-ended-requires-3 Inv-loop2 μ-loop2 Inv-loop μ-loop
 ended-requires-3 c κs = search needs
 
-returns-3 : tie.Need-returns-3 Inv-loop μ-loop
+returns-3 : tie.Need-returns-3 Inv-loop2 μ-loop2 Inv-loop μ-loop
 returns-3 c = c .ended3 .ensures ∙ sym (rw (c .before .enum-told3 .given .1) at (decided (c .before .before .before .before)))
 
-enum-told-4 : tie.Need-enum-told-4 Inv-loop μ-loop
+enum-told-4 : tie.Need-enum-told-4 Inv-loop2 μ-loop2 Inv-loop μ-loop
 enum-told-4 c = search needs
 
-add-done : tie.Need-add-done Inv-loop μ-loop
+add-done : tie.Need-add-done Inv-loop2 μ-loop2 Inv-loop μ-loop
 add-done c = omega arith
 
-loop-less : tie.Need-loop-less Inv-loop μ-loop
+loop-less : tie.Need-loop-less Inv-loop2 μ-loop2 Inv-loop μ-loop
 loop-less c = omega arith
 
-loop-again : tie.Need-loop-again Inv-loop μ-loop
+loop-again : tie.Need-loop-again Inv-loop2 μ-loop2 Inv-loop μ-loop
 loop-again c =
     let d = c .before .before .before in
-    let l = d .before .before .before .loop in
-    let box = next-box (l .x) (l .inv .1 .0) (d .before .image .ensures) (d .decide .ensures) (c .enum-told4 .given .1) in (
+    let l = d .before .before .before .before .before .before .loop in
+    let box = next-box (l .x) (l .inv .1 .0) (imaged (d .before)) (d .decide .ensures) (c .enum-told4 .given .1) in (
       omega arith,
       (record { system = l .inv .1 .0 .system; inverse = l .inv .1 .0 .inverse; box = box }, sym (rw (c .enum-told4 .given .1) at (decided d))),
     )
@@ -101,9 +217,24 @@ pub run-steps-spec : {M : Type 1} → statement M
 run-steps-spec =
     tie.close
     (tie.spec
+    Inv-loop2
+    μ-loop2
     Inv-loop
     μ-loop
     loop-holds
+    middles-requires
+    loop2-holds
+    mul-q
+    array-copy-out-q
+    equation-over-requires
+    mul-f
+    array-set-from-f
+    slope-row-requires
+    mul-s
+    array-set-from-s
+    add-i
+    loop2-less
+    loop2-again
     image-requires
     decide-requires
     add-steps

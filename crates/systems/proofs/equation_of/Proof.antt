@@ -14,7 +14,7 @@ use Rattle.systems.proofs.Systems.{equation-by, parts-by}
 use Rattle.systems.proofs.equation_of.Statement.{statement}
 use Rattle.systems.proofs.equation_of.Tie as tie
 
-right-fits : (j : Job) → j .kind ≡ Kind.Linear → JobIn j → (i : ℕ) → i < j .n → SFits w64 (numberAt (j .right) i)
+right-fits : (j : Job) → j .head .kind ≡ Kind.Linear → JobIn j → (i : ℕ) → i < j .head .n → SFits w64 (numberAt (j .system .right) i)
 right-fits j e h i l = fits (parts-by j e h .1 .each i l) tt
 
 enum-told : tie.Need-enum-told
@@ -43,7 +43,7 @@ element-copy-out-right c = search needs
 
 linear-equation-requires : tie.Need-linear-equation-requires
 linear-equation-requires c κs =
-    let p = c .before .before .before .before .before .pre in
+    let p = c .before .before .before .before .before .before .before .pre in
     let e = c .before .before .before .enum-told2 .given .1 in
     (p .0 .places, rw (back (right-fits _ e (p .0) _ (p .1))) (parts-by _ e (p .0) .1 .each _ (p .1)))
 
@@ -67,7 +67,7 @@ returns c = sym (equation-by _ (c .before .enum-told .given .1) _)
 
 returns-2 : tie.Need-returns-2
 returns-2 c =
-    let p = c .before .before .before .before .before .before .pre in
+    let p = c .before .before .before .before .before .before .before .before .pre in
     let e = c .before .before .before .before .enum-told2 .given .1 in
     rw (back (right-fits _ e (p .0) _ (p .1))) at (c .linear-equation .ensures) ∙ sym (equation-by _ e _)
 

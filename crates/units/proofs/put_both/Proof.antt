@@ -5,7 +5,8 @@ use native.Mathlib.Omega.{arith}
 use native.Mathlib.Nat.{zero-add}
 use mathlib.Core.Path.{ap, _∙_}
 use lib.ListN.{length}
-use Rattle.writing.proofs.Answer.{no-room, all-written}
+use Rattle.faults.proofs.Answer.{no-room}
+use Rattle.writing.proofs.Answer.{all-written}
 use Rattle.units.specs.Show.{unitsOf}
 use Rattle.units.proofs.Both.{both-written, both-length}
 use Rattle.units.proofs.put_both.Statement.{statement}

@@ -3,7 +3,7 @@ use borrow.Author.Needs.{needs}
 use native.Mathlib.Omega.{arith}
 use mathlib.Core.Path.{sym}
 use lib.Seq.{length-take-le}
-use Rattle.resultwrite.proofs.Ready.{ready-done}
+use Rattle.result_write.proofs.Ready.{ready-done}
 use Rattle.units.proofs.Both.{result-whole, checked-short}
 use Rattle.units.proofs.write_checked.Statement.{statement}
 use Rattle.units.proofs.write_checked.Tie as tie

@@ -1,7 +1,7 @@
 -- `units::write_units` meets its contract.
 use borrow.Author.Needs.{needs}
 use mathlib.Core.Path.{sym, _∙_}
-use Rattle.writing.proofs.Answer.{values-bad}
+use Rattle.faults.proofs.Answer.{values-bad}
 use Rattle.units.specs.Show.{unitsOf}
 use Rattle.units.proofs.write_units.Statement.{statement}
 use Rattle.units.proofs.write_units.Tie as tie

@@ -5,6 +5,7 @@ use mathlib.Core.Path.{_≡_, sym}
 use lib.ListN.{length, length-take}
 use lib.Seq.{length-take-le}
 use Rattle.sizes.specs.Sizes.{nMax}
+use Rattle.writing.proofs.Lists.{taken-first}
 use Rattle.writing.proofs.put_row_line.Statement.{statement}
 use Rattle.writing.proofs.put_row_line.Tie as tie
 
@@ -20,13 +21,22 @@ slice-aggregate-put-list-line c =
 put-list-line-requires : tie.Need-put-list-line-requires
 put-list-line-requires c κs =
     let start = c .before .before .before .before in
-    (omega (arith, start .pre .room, start .pre .few, length-take (start .args .n) (start .args .t4)), start .pre .small)
+    let n = start .args .n in
+    let row = start .args .t4 in
+    let long : length row ≡ nMax = search needs in (
+      omega (arith, start .pre .room, start .pre .few, length-take n row),
+      rw (taken-first n row (omega (arith, start .pre .few))) (start .pre .small),
+    )
 
 same-length : tie.Need-same-length
 same-length c = search needs
 
 returns : tie.Need-returns
-returns c = search needs
+returns c =
+    let start = c .before .before .before .before .before .before .before in
+    let long : length (start .args .t4) ≡ nMax = search needs in
+    rw (taken-first (start .args .n) (start .args .t4) (omega (arith, start .pre .few))) at
+    (c .before .before .put-list-line .ensures)
 
 pub put-row-line-spec : {M : Type 1} → statement M
 put-row-line-spec =

@@ -1,136 +1,107 @@
--- `jobs::check_result` meets its contract: each return by the tests before it.
+-- `check_result::check_result` meets its contract: the lines before `hi`, and where none of them is bad n is at most its limit.
 use borrow.Author.Needs.{needs}
-use borrow.Author.Tests.{lt-ltb, le-ltb, eq-eqb, ne-eqb}
-use Rattle.jobs.specs.CheckResult.{checkResult}
+use mathlib.Core.Path.{_≡_, sym, ap, _∙_}
+use mathlib.Core.Bool.{true, false}
+use Rattle.faults.specs.declared.Status.{Status}
+use Rattle.faults.specs.Checks.{isBad, andThen}
+use Rattle.faults.proofs.Laws.{not-bad, bad-first, good-first, done-next, fine-first, fine-line, line-same, fine-skips, then-assoc}
+use Rattle.jobs.specs.CheckResult.{countedCheck, resultCheck, resultLineStatus, checkResult}
+use Rattle.jobs.proofs.CheckLaws.{count-fine}
 use Rattle.jobs.proofs.check_result.check_result.Statement.{statement}
 use Rattle.jobs.proofs.check_result.check_result.Tie as tie
 
+grouped : (a b c d : Status) → andThen (andThen a (andThen b c)) d ≡ andThen a (andThen b (andThen c d))
+grouped a b c d = then-assoc a (andThen b c) d ∙ ap (andThen a) (then-assoc b c d)
+
+-- the lines before `hi`, joined
+module _ {n s l a x N S L : Status} (en : n ≡ N) (es : s ≡ S) (el : l ≡ L) (first : a ≡ andThen s l) (all : x ≡ andThen n a) where
+  joined : (h : Status) → andThen x h ≡ andThen N (andThen S (andThen L h))
+  joined h = ap (λ (y : Status). andThen y h) (rw (← en, ← es, ← el, ← first) all) ∙ grouped N S L h
+
+  stopped : (h : Status) → isBad x ≡ true → x ≡ andThen N (andThen S (andThen L h))
+  stopped h b = sym (bad-first x h b) ∙ joined h
+
+  passed : {h y : Status} → isBad x ≡ false → y ≡ h → y ≡ andThen N (andThen S (andThen L h))
+  passed {h} b k = k ∙ sym (good-first x h (not-bad x b)) ∙ joined h
+
+number-check-requires : tie.Need-number-check-requires
+number-check-requires c κs = search needs
+
+numbered-requires : tie.Need-numbered-requires
+numbered-requires c κs = search needs
+
+steps-check-requires : tie.Need-steps-check-requires
+steps-check-requires c κs = search needs
+
+numbered-requires-2 : tie.Need-numbered-requires-2
+numbered-requires-2 c κs = search needs
+
+counted-check-requires : tie.Need-counted-check-requires
+counted-check-requires c κs = search needs
+
+numbered-requires-3 : tie.Need-numbered-requires-3
+numbered-requires-3 c κs = search needs
+
+and-then-requires : tie.Need-and-then-requires
+and-then-requires c κs = search needs
+
+and-then-requires-2 : tie.Need-and-then-requires-2
+and-then-requires-2 c κs = search needs
+
+is-bad-requires : tie.Need-is-bad-requires
+is-bad-requires c κs = search needs
+
 returns : tie.Need-returns
-unfolding checkResult
+unfolding checkResult resultLineStatus resultCheck
 returns c =
-    rw (lt-ltb _ _ (c .if1 .taken))
+    let low = c .before .before .before .before in
+    let steps = low .before .before in
+    rw (fine-skips _ _)
+    (stopped (line-same _ (steps .before .before .before .number-check .ensures) (steps .before .before .numbered .ensures))
+    (line-same _ (steps .before .steps-check .ensures) (steps .numbered2 .ensures))
+    (line-same _ (low .before .counted-check .ensures) (low .numbered3 .ensures))
+    (c .before .before .before .and-then .ensures) (c .before .before .and-then2 .ensures) _
+    (sym (c .before .is-bad .ensures) ∙ c .if1 .taken))
+
+high-check-requires : tie.Need-high-check-requires
+unfolding countedCheck
+high-check-requires c κs =
+    let low = c .before .before .before .before in
+    let done = not-bad _ (sym (c .before .is-bad .ensures) ∙ c .if1 .left) in
+    let line = done-next _ _ (sym (c .before .before .before .and-then .ensures) ∙ done-next _ _ (sym (c .before .before .and-then2 .ensures) ∙ done)) in
+    let fine = fine-line _ _ (sym (line-same _ (low .before .counted-check .ensures) (low .numbered3 .ensures)) ∙ line) in
+    count-fine _ (fine-first _ _ fine) .1
+
+numbered-requires-4 : tie.Need-numbered-requires-4
+numbered-requires-4 c κs = search needs
 
 returns-2 : tie.Need-returns-2
-unfolding checkResult
+unfolding checkResult resultLineStatus resultCheck
 returns-2 c =
-    let t1 = c .before .before in
-    rw (le-ltb _ _ (t1 .if1 .left), lt-ltb _ _ (c .if2 .taken))
-
-returns-3 : tie.Need-returns-3
-unfolding checkResult
-returns-3 c =
-    let t2 = c .before in
-    let t1 = t2 .before .before in
-    rw (le-ltb _ _ (t1 .if1 .left), le-ltb _ _ (t2 .if2 .left), eq-eqb _ _ (c .if3 .taken))
-
-returns-4 : tie.Need-returns-4
-unfolding checkResult
-returns-4 c =
-    let t3 = c .before in
-    let t2 = t3 .before in
-    let t1 = t2 .before .before in
-    rw (le-ltb _ _ (t1 .if1 .left), le-ltb _ _ (t2 .if2 .left), ne-eqb _ _ (t3 .if3 .left), lt-ltb _ _ (c .if4 .taken))
-
-all-within-requires : tie.Need-all-within-requires
-all-within-requires c κs = search needs
-
-returns-5 : tie.Need-returns-5
-unfolding checkResult
-returns-5 c =
-    let t4 = c .before .before in
-    let t3 = t4 .before in
-    let t2 = t3 .before in
-    let t1 = t2 .before .before in
-    rw (
-      le-ltb _ _ (t1 .if1 .left),
-      le-ltb _ _ (t2 .if2 .left),
-      ne-eqb _ _ (t3 .if3 .left),
-      le-ltb _ _ (t4 .if4 .left),
-      ← c .before .all-within .ensures,
-      c .if5 .taken,
-    )
-
-all-within-requires-2 : tie.Need-all-within-requires-2
-all-within-requires-2 c κs = search needs
-
-returns-6 : tie.Need-returns-6
-unfolding checkResult
-returns-6 c =
-    let t5 = c .before .before in
-    let t4 = t5 .before .before in
-    let t3 = t4 .before in
-    let t2 = t3 .before in
-    let t1 = t2 .before .before in
-    rw (
-      le-ltb _ _ (t1 .if1 .left),
-      le-ltb _ _ (t2 .if2 .left),
-      ne-eqb _ _ (t3 .if3 .left),
-      le-ltb _ _ (t4 .if4 .left),
-      ← t5 .before .all-within .ensures,
-      t5 .if5 .left,
-      ← c .before .all-within2 .ensures,
-      c .if6 .taken,
-    )
-
-all-ordered-requires : tie.Need-all-ordered-requires
-all-ordered-requires c κs = search needs
-
-returns-7 : tie.Need-returns-7
-unfolding checkResult
-returns-7 c =
-    let t6 = c .before .before in
-    let t5 = t6 .before .before in
-    let t4 = t5 .before .before in
-    let t3 = t4 .before in
-    let t2 = t3 .before in
-    let t1 = t2 .before .before in
-    rw (
-      le-ltb _ _ (t1 .if1 .left),
-      le-ltb _ _ (t2 .if2 .left),
-      ne-eqb _ _ (t3 .if3 .left),
-      le-ltb _ _ (t4 .if4 .left),
-      ← t5 .before .all-within .ensures,
-      t5 .if5 .left,
-      ← t6 .before .all-within2 .ensures,
-      t6 .if6 .left,
-      ← c .before .all-ordered .ensures,
-      c .if7 .taken,
-    )
-
-returns-8 : tie.Need-returns-8
-unfolding checkResult
-returns-8 c =
-    let t6 = c .before .before in
-    let t5 = t6 .before .before in
-    let t4 = t5 .before .before in
-    let t3 = t4 .before in
-    let t2 = t3 .before in
-    let t1 = t2 .before .before in
-    rw (
-      le-ltb _ _ (t1 .if1 .left),
-      le-ltb _ _ (t2 .if2 .left),
-      ne-eqb _ _ (t3 .if3 .left),
-      le-ltb _ _ (t4 .if4 .left),
-      ← t5 .before .all-within .ensures,
-      t5 .if5 .left,
-      ← t6 .before .all-within2 .ensures,
-      t6 .if6 .left,
-      ← c .before .all-ordered .ensures,
-      c .if7 .left,
-    )
+    let low = c .before .before .before .before .before .before in
+    let steps = low .before .before in
+    rw (fine-skips _ _)
+    (passed (line-same _ (steps .before .before .before .number-check .ensures) (steps .before .before .numbered .ensures))
+    (line-same _ (steps .before .steps-check .ensures) (steps .numbered2 .ensures))
+    (line-same _ (low .before .counted-check .ensures) (low .numbered3 .ensures))
+    (c .before .before .before .before .before .and-then .ensures) (c .before .before .before .before .and-then2 .ensures)
+    (sym (c .before .before .before .is-bad .ensures) ∙ c .before .before .if1 .left)
+    (line-same _ (c .before .high-check .ensures) (c .numbered4 .ensures)))
 
 pub check-result-spec : {M : Type 1} → statement M
 check-result-spec =
     tie.close
     (tie.spec
+    number-check-requires
+    numbered-requires
+    steps-check-requires
+    numbered-requires-2
+    counted-check-requires
+    numbered-requires-3
+    and-then-requires
+    and-then-requires-2
+    is-bad-requires
     returns
-    returns-2
-    returns-3
-    returns-4
-    all-within-requires
-    returns-5
-    all-within-requires-2
-    returns-6
-    all-ordered-requires
-    returns-7
-    returns-8)
+    high-check-requires
+    numbered-requires-4
+    returns-2)

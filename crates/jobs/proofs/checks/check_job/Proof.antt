@@ -1,9 +1,9 @@
 -- `checks::check_job` meets its contract. Where the head is right, n is at most its limit, which the other lines rely on.
-use mathlib.Core.Path.{sym, _∙_}
-use native.Mathlib.Omega.{arith}
 use borrow.Author.Needs.{needs}
-use Rattle.jobs.specs.Checks.{headLines, checkJob}
-use Rattle.jobs.proofs.CheckLaws.{not-bad, bad-first, good-first, done-next, unknowns-done}
+use mathlib.Core.Path.{sym, _∙_}
+use Rattle.faults.proofs.Laws.{not-bad, bad-first, good-first, done-next, fine-line}
+use Rattle.jobs.specs.Checks.{lineCheck, jobLineStatus, headLines, checkJob}
+use Rattle.jobs.proofs.CheckLaws.{unknowns-fine}
 use Rattle.jobs.proofs.checks.check_job.Statement.{statement}
 use Rattle.jobs.proofs.checks.check_job.Tie as tie
 
@@ -19,10 +19,10 @@ returns c =
     rw (← c .before .before .head-lines .ensures) (sym (bad-first _ _ (sym (c .before .is-bad .ensures) ∙ c .if1 .taken)))
 
 body-lines-requires : tie.Need-body-lines-requires
-unfolding headLines
+unfolding headLines jobLineStatus lineCheck
 body-lines-requires c κs =
     let done = sym (c .before .before .head-lines .ensures) ∙ not-bad _ (sym (c .before .is-bad .ensures) ∙ c .if1 .left) in
-    (unknowns-done 3 _ (done-next _ _ done) .1, omega arith)
+    unknowns-fine _ (fine-line _ _ (done-next _ _ (done-next _ _ done))) .1
 
 returns-2 : tie.Need-returns-2
 unfolding checkJob

@@ -1,25 +1,24 @@
 -- `checks::system_lines` meets its contract. The loop's invariant: no line passed is bad.
 use mathlib.Core.Path.{_≡_, sym, ap, _∙_}
-use Prim.Native.Nat.{_≤_, _+_, _-_}
+use Prim.Native.Nat.{_≤_, _-_}
 use native.Mathlib.Omega.{arith}
 use borrow.Author.Needs.{needs}
-use Rattle.jobs.specs.declared.Status.{Status}
-use Rattle.jobs.specs.Checks.{isBad, linesOf, systemLine, systemLines}
-use Rattle.jobs.proofs.CheckLaws.{not-bad, lines-none, lines-more, lines-done, lines-stop}
+use Rattle.faults.specs.declared.Status.{Status}
+use Rattle.faults.specs.Checks.{isBad, linesOf}
+use Rattle.jobs.specs.declared.JobLine.{JobLine}
+use Rattle.jobs.specs.Checks.{jobLineStatus, systemLines}
+use Rattle.faults.proofs.Laws.{not-bad, lines-none, lines-more, lines-done, lines-stop}
 use Rattle.jobs.proofs.checks.system_lines.Statement.{statement}
 use Rattle.jobs.proofs.checks.system_lines.Tie as tie
 
 abbrev Inv-loop : tie.InvT-loop
-Inv-loop line j n i₀ i = (i ≤ n) × (linesOf i (λ k. systemLine (j .kind) (line + k) j k) ≡ Status.Done)
+Inv-loop j n i₀ i = (i ≤ n) × (linesOf i (λ k. jobLineStatus (JobLine.System k) j) ≡ Status.Done)
 
 abbrev μ-loop : tie.MeasureT-loop
-μ-loop line j n i₀ i = n - i
+μ-loop j n i₀ i = n - i
 
 loop-holds : tie.Need-loop-holds Inv-loop μ-loop
 loop-holds c = (omega arith, lines-none _)
-
-add-system-line : tie.Need-add-system-line Inv-loop μ-loop
-add-system-line c = search needs
 
 system-line-requires : tie.Need-system-line-requires Inv-loop μ-loop
 system-line-requires c κs = search needs
@@ -58,7 +57,6 @@ system-lines-spec =
     Inv-loop
     μ-loop
     loop-holds
-    add-system-line
     system-line-requires
     is-bad-requires
     returns

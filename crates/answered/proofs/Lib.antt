@@ -1,6 +1,0 @@
-pub mod Rows
-pub mod Lines
-pub mod Faults
-pub mod Results
-pub mod Answered
-pub mod Demand1

@@ -1,0 +1,13 @@
+pub mod Rows
+pub mod Lines
+pub mod Texts
+pub mod Faults
+pub mod Answered
+pub mod Demand1
+pub mod RunSettled
+pub mod ReadSettled
+pub mod WriteSettled
+pub mod DeskSettled
+pub mod ForCSettled
+pub mod FramingSettled
+pub mod UnitsSettled

@@ -1,0 +1,43 @@
+-- Faults 1 and 7 are of a whole text: no line of a job or of a result has them.
+use Prim.Native.Nat.{ℕ}
+use mathlib.Core.List.{List}
+use Rattle.faults.specs.declared.Fault.{Fault}
+use Rattle.jobs.specs.declared.Kind.{Kind}
+use Rattle.jobs.specs.declared.Job.{Job}
+use Rattle.jobs.specs.declared.JobLine.{JobLine}
+use Rattle.jobs.specs.declared.Result.{Result}
+use Rattle.jobs.specs.declared.ResultLine.{ResultLine}
+use Rattle.reading.specs.Got.{Blamed}
+use Rattle.reading.proofs.Blamed.{blamed-fault, blamed-after}
+use Rattle.lines.proofs.Faults.{OfLine, spelling, number-of-line, kind-of-line, unknowns-of-line, low-of-line}
+use Rattle.lines.proofs.Faults.{high-of-line, inverse-of-line, steps-of-line, equation-of-line, sided-of-line}
+use Rattle.lines.proofs.Faults.{row-of-line, verdict-of-line, any-low-of-line}
+use Rattle.job_form.specs.JobForm.{systemSays, jobSays}
+use Rattle.result_form.specs.ResultForm.{resultSays}
+
+system-says : (k : Kind) (i : ℕ) (j : Job) (l : List ℕ) → Blamed OfLine (systemSays k i j l)
+unfolding systemSays
+system-says Kind.Poly i j l = blamed-after _ _ (equation-of-line l (j .head .n))
+system-says Kind.Linear i j l = blamed-after _ _ (sided-of-line l (j .head .n))
+system-says Kind.Eigen i j l = blamed-after _ _ (row-of-line l (j .head .n))
+
+pub job-says : (k : JobLine) (j : Job) (l : List ℕ) → Blamed OfLine (jobSays k j l)
+unfolding jobSays
+job-says JobLine.Number j l = blamed-after _ _ (number-of-line l)
+job-says JobLine.Kind j l = blamed-after _ _ (kind-of-line l)
+job-says JobLine.Unknowns j l = blamed-after _ _ (unknowns-of-line l)
+job-says JobLine.Lo j l = blamed-after _ _ (low-of-line l (j .head .n))
+job-says JobLine.Hi j l = blamed-after _ _ (high-of-line l (j .head .n) (j .ends .lo))
+job-says JobLine.Inv j l = blamed-after _ _ (inverse-of-line l (j .head .n))
+job-says JobLine.Steps j l = blamed-after _ _ (steps-of-line l)
+job-says (JobLine.System i) j l = system-says (j .head .kind) i j l
+job-says JobLine.End j l = blamed-fault Fault.Spelling spelling
+
+pub result-says : (k : ResultLine) (r : Result) (l : List ℕ) → Blamed OfLine (resultSays k r l)
+unfolding resultSays
+result-says ResultLine.Number r l = blamed-after _ _ (number-of-line l)
+result-says ResultLine.Verdict r l = blamed-after _ _ (verdict-of-line l)
+result-says ResultLine.Steps r l = blamed-after _ _ (steps-of-line l)
+result-says ResultLine.Lo r l = blamed-after _ _ (any-low-of-line l)
+result-says ResultLine.Hi r l = blamed-after _ _ (high-of-line l (r .n) (r .lo))
+result-says ResultLine.End r l = blamed-fault Fault.Spelling spelling

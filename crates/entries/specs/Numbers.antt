@@ -1,0 +1,94 @@
+-- Document 01, "Fault numbers": what is told of an entry's status, and for values which fault, as a table. "lines are
+-- taken in order and the first bad line decides; in one line 2 comes before the others, then 3, then 4, then 5 or 6",
+-- "values handed over without text get the same checks in the same line order".
+use Prim.Native.Nat.{ℕ, zero, suc, _+_}
+use mathlib.Core.Bool.{Bool, cond, not}
+use mathlib.Core.List.{List, [], _∷_, _++_}
+use lib.Dec.{eqb, ltb, leb}
+use lib.IntN.{pos}
+use lib.ListN.{length, getD}
+use Rattle.sizes.specs.Sizes.{nMax, stepsMax, numberMax, entryMax}
+use Rattle.jobs.specs.Places.{equationAt, rowAt}
+use Rattle.jobs.specs.Ranges.{isWithin, allOrdered}
+use Rattle.jobs.specs.Terms.{goodCoefs, goodTerms}
+use Rattle.jobs.specs.Checks.{goodUnknowns, goodEnds, goodEntries, goodMatrix}
+use Rattle.faults.specs.Words.{numberOf, lineOf}
+use Rattle.jobs.specs.declared.Kind.{Kind}
+use Rattle.jobs.specs.declared.Job.{Job}
+use Rattle.jobs.specs.declared.Result.{Result}
+use Rattle.faults.specs.declared.Status.{Status}
+
+-- "A fault returns its number and a line": 0 and 0 where there is none
+pub record Told : Type 0 where
+  pub number : ℕ
+  pub line : ℕ
+
+abbrev pub told : Status → Told
+told st = record { number = numberOf st; line = lineOf st }
+
+abbrev pub tell : ℕ → ℕ → Told
+tell number line = record { number = number; line = line }
+
+-- the fault of a, and where it has none that of b
+abbrev pub orElse : Told → Told → Told
+orElse a b = cond (eqb (a .number) 0) b a
+
+-- "the written text is longer than the lent buffer": 7, line 0
+abbrev pub shortBuffer : List ℕ → List ℕ → Told
+shortBuffer old text = cond (ltb (length old) (length text)) (tell 7 0) (tell 0 0)
+
+-- a line, a fault's number, and whether it is given there
+pub record Row : Type 0 where
+  pub line : ℕ
+  pub number : ℕ
+  pub given : Bool
+
+abbrev row : ℕ → ℕ → Bool → Row
+row line number given = record { line = line; number = number; given = given }
+
+-- the first bad line decides
+abbrev pub firstGiven : List Row → Told
+firstGiven [] = tell 0 0
+firstGiven (r ∷ rs) = cond (r .given) (tell (r .number) (r .line)) (firstGiven rs)
+
+-- the rows of n lines
+abbrev pub eachLine : ℕ → (ℕ → List Row) → List Row
+eachLine zero f = []
+eachLine (suc n) f = eachLine n f ++ f n
+
+-- line i of the system: `eq` of a polynomial job, `row` of a linear one with its right side, `row` of an eigenpair
+abbrev pub systemRows : Kind → Job → ℕ → List Row
+systemRows Kind.Poly j i =
+    row (8 + i) 4 (not (goodCoefs (equationAt (j .system .eqs) i)))
+    ∷ row (8 + i) 6 (not (goodTerms (equationAt (j .system .eqs) i) (j .head .n)))
+    ∷ []
+systemRows Kind.Linear j i =
+    row (8 + i) 4 (not (goodEntries (rowAt (j .system .rows) i) (j .head .n)))
+    ∷ row (8 + i) 4 (not (isWithin (getD (j .system .right) i (pos 0)) (pos entryMax)))
+    ∷ []
+systemRows Kind.Eigen j i = row (8 + i) 4 (not (goodEntries (rowAt (j .system .rows) i) (j .head .n))) ∷ []
+
+-- "Order: job, kind, n, lo, hi, inv, steps, then n lines"
+abbrev pub jobRows : Job → List Row
+jobRows j =
+    row 1 4 (not (leb (j .head .number) numberMax))
+    ∷ row 3 3 (not (goodUnknowns (j .head .n)))
+    ∷ row 4 4 (not (goodEnds (j .ends .lo) (j .head .n)))
+    ∷ row 5 4 (not (goodEnds (j .ends .hi) (j .head .n)))
+    ∷ row 5 5 (not (allOrdered (j .ends .lo) (j .ends .hi) (j .head .n)))
+    ∷ row 6 4 (not (goodMatrix (j .inv) (j .head .n)))
+    ∷ row 7 8 (not (leb (j .steps) stepsMax))
+    ∷ eachLine (j .head .n) (systemRows (j .head .kind) j)
+
+-- a result's lines are job, verdict, steps, lo, hi: "an empty list (n = 0 in values) is fault 2, one of over 4
+-- numbers fault 3"
+abbrev pub resultRows : Result → List Row
+resultRows r =
+    row 1 4 (ltb numberMax (r .number))
+    ∷ row 3 8 (ltb stepsMax (r .steps))
+    ∷ row 4 2 (eqb (r .n) 0)
+    ∷ row 4 3 (ltb nMax (r .n))
+    ∷ row 4 4 (not (goodEnds (r .lo) (r .n)))
+    ∷ row 5 4 (not (goodEnds (r .hi) (r .n)))
+    ∷ row 5 5 (not (allOrdered (r .lo) (r .hi) (r .n)))
+    ∷ []

@@ -1,0 +1,22 @@
+-- `and_then` meets its contract: a bad first line is the answer.
+use borrow.Author.Needs.{needs}
+use Rattle.faults.specs.Checks.{andThen}
+use Rattle.faults.proofs.and_then.Statement.{statement}
+use Rattle.faults.proofs.and_then.Tie as tie
+
+enum-told : tie.Need-enum-told
+enum-told c = search needs
+
+enum-known-first : tie.Need-enum-known-first
+enum-known-first c = search needs
+
+returns : tie.Need-returns
+unfolding andThen
+returns c = rw (c .enum-told .given .1)
+
+returns-2 : tie.Need-returns-2
+unfolding andThen
+returns-2 c = rw (c .before .first .given .1)
+
+pub and-then-spec : {M : Type 1} → statement M
+and-then-spec = tie.close (tie.spec enum-told enum-known-first returns returns-2)

@@ -1,0 +1,24 @@
+-- Document 01's numbers for the cases of the values' enums.
+use Prim.Native.Nat.{ℕ}
+use Rattle.faults.specs.declared.Fault.{Fault}
+use Rattle.faults.specs.declared.Status.{Status}
+
+-- the table of "Fault numbers"
+abbrev pub faultNumber : Fault → ℕ
+faultNumber Fault.LongText = 1
+faultNumber Fault.Spelling = 2
+faultNumber Fault.Unknowns = 3
+faultNumber Fault.Beyond = 4
+faultNumber Fault.Crossed = 5
+faultNumber Fault.Terms = 6
+faultNumber Fault.ShortBuffer = 7
+faultNumber Fault.Steps = 8
+
+-- "A fault returns its number and a line": 0 and 0 where there is none
+abbrev pub numberOf : Status → ℕ
+numberOf Status.Done = 0
+numberOf (Status.Refused f line) = faultNumber f
+
+abbrev pub lineOf : Status → ℕ
+lineOf Status.Done = 0
+lineOf (Status.Refused f line) = line

@@ -1,0 +1,3 @@
+pub mod JobForm
+pub mod Live
+pub mod JobBytes

@@ -1,0 +1,131 @@
+-- `job_read::first::head_at` meets its contract.
+use mathlib.Core.Path.{refl, sym, _∙_}
+use native.Mathlib.Omega.{arith}
+use Rattle.jobs.specs.Zero.{noJob}
+use Rattle.line_read.proofs.Ways.{leads-inside, leads-on}
+use Rattle.job_read.proofs.Lines.{number-leads, kind-leads, unknowns-leads, unknowns-whole, head-stop}
+use borrow.Author.Needs.{needs}
+use Rattle.job_read.proofs.first.head_at.Statement.{statement}
+use Rattle.job_read.proofs.first.head_at.Tie as tie
+
+zero-head-requires : tie.Need-zero-head-requires
+zero-head-requires c κs = search needs
+
+number-line-requires : tie.Need-number-line-requires
+number-line-requires c κs = search needs
+
+job-line-number-requires : tie.Need-job-line-number-requires
+job-line-number-requires c κs = search needs
+
+on-line-requires : tie.Need-on-line-requires
+on-line-requires c κs = search needs
+
+is-bad-requires : tie.Need-is-bad-requires
+is-bad-requires c κs = search needs
+
+no-head-requires : tie.Need-no-head-requires
+no-head-requires c κs = search needs
+
+returns : tie.Need-returns
+returns c =
+    let c4 = c .before .before .before .before in
+    let c8 = c4 .before .before .before .before in
+    let t = c8 .args .text .now in
+    let number = number-leads t noJob 0 (omega arith) (c4 .before .number-line .ensures)
+    (c .before .before .before .on-line .ensures) (c4 .job-line-number .ensures) in
+    head-stop number (sym (c .before .before .is-bad .ensures) ∙ c .before .if1 .taken) (c .no-head .ensures)
+
+kind-line-requires : tie.Need-kind-line-requires
+kind-line-requires c κs =
+    let c4 = c .before .before .before .before in
+    let t = c4 .before .before .before .args .text .now in
+    let number = number-leads t noJob 0 (omega arith) (c4 .number-line .ensures) (c .before .before .on-line .ensures)
+    (c .before .before .before .job-line-number .ensures) in
+    leads-inside _ _ number
+
+job-line-number-requires-2 : tie.Need-job-line-number-requires-2
+job-line-number-requires-2 c κs = search needs
+
+on-line-requires-2 : tie.Need-on-line-requires-2
+on-line-requires-2 c κs = search needs
+
+is-bad-requires-2 : tie.Need-is-bad-requires-2
+is-bad-requires-2 c κs = search needs
+
+no-head-requires-2 : tie.Need-no-head-requires-2
+no-head-requires-2 c κs = search needs
+
+returns-2 : tie.Need-returns-2
+returns-2 c =
+    let c4 = c .before .before .before .before in
+    let c8 = c4 .before .before .before .before in
+    let c12 = c8 .before .before .before .before in
+    let t = c12 .before .args .text .now in
+    let number = number-leads t noJob 0 (omega arith) (c8 .before .before .number-line .ensures) (c8 .on-line .ensures)
+    (c8 .before .job-line-number .ensures) in
+    let kind =
+    leads-on _ _ number (sym (c4 .before .before .before .is-bad .ensures) ∙ c4 .before .before .if1 .left)
+    (kind-leads t _ _ (leads-inside _ _ number) (c4 .before .kind-line .ensures)
+    (c .before .before .before .on-line2 .ensures) (c4 .job-line-number2 .ensures)) in
+    head-stop kind (sym (c .before .before .is-bad2 .ensures) ∙ c .before .if2 .taken) (c .no-head2 .ensures)
+
+unknowns-line-requires : tie.Need-unknowns-line-requires
+unknowns-line-requires c κs =
+    let c4 = c .before .before .before .before in
+    let c8 = c4 .before .before .before .before in
+    let c12 = c8 .before .before .before .before in
+    let t = c12 .args .text .now in
+    let number = number-leads t noJob 0 (omega arith) (c8 .before .number-line .ensures)
+    (c4 .before .before .before .on-line .ensures) (c8 .job-line-number .ensures) in
+    let kind =
+    leads-on _ _ number (sym (c4 .before .before .is-bad .ensures) ∙ c4 .before .if1 .left)
+    (kind-leads t _ _ (leads-inside _ _ number) (c4 .kind-line .ensures) (c .before .before .on-line2 .ensures)
+    (c .before .before .before .job-line-number2 .ensures)) in
+    leads-inside _ _ kind
+
+job-line-number-requires-3 : tie.Need-job-line-number-requires-3
+job-line-number-requires-3 c κs = search needs
+
+on-line-requires-3 : tie.Need-on-line-requires-3
+on-line-requires-3 c κs = search needs
+
+returns-3 : tie.Need-returns-3
+returns-3 c =
+    let c4 = c .before .before .before .before in
+    let c8 = c4 .before .before .before .before in
+    let c12 = c8 .before .before .before .before in
+    let t = c12 .before .before .before .args .text .now in
+    let number = number-leads t noJob 0 (omega arith) (c12 .number-line .ensures)
+    (c8 .before .before .on-line .ensures) (c8 .before .before .before .job-line-number .ensures) in
+    let kind =
+    leads-on _ _ number (sym (c8 .before .is-bad .ensures) ∙ c8 .if1 .left)
+    (kind-leads t _ _ (leads-inside _ _ number) (c4 .before .before .before .kind-line .ensures)
+    (c4 .before .on-line2 .ensures) (c4 .before .before .job-line-number2 .ensures)) in
+    record {
+      leads = leads-on _ _ kind (sym (c4 .is-bad2 .ensures) ∙ c .before .before .before .if2 .left)
+          (unknowns-leads t _ _ (leads-inside _ _ kind) (c .before .before .unknowns-line .ensures)
+          (c .on-line3 .ensures) (c .before .job-line-number3 .ensures));
+      whole = unknowns-whole t _ _ (c .before .before .unknowns-line .ensures) (c .on-line3 .ensures) refl;
+    }
+
+pub head-at-spec : {M : Type 1} → statement M
+head-at-spec =
+    tie.close
+    (tie.spec
+    zero-head-requires
+    number-line-requires
+    job-line-number-requires
+    on-line-requires
+    is-bad-requires
+    no-head-requires
+    returns
+    kind-line-requires
+    job-line-number-requires-2
+    on-line-requires-2
+    is-bad-requires-2
+    no-head-requires-2
+    returns-2
+    unknowns-line-requires
+    job-line-number-requires-3
+    on-line-requires-3
+    returns-3)

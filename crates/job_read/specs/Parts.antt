@@ -1,0 +1,44 @@
+-- What the parts of a job text say.
+use Prim.Native.Nat.{ℕ, _≤_, _<_}
+use mathlib.Core.Path.{_≡_}
+use mathlib.Core.Bool.{false}
+use mathlib.Core.List.{List}
+use Rattle.sizes.specs.Sizes.{nMax}
+use Rattle.faults.specs.declared.Status.{Status}
+use Rattle.faults.specs.Checks.{isBad}
+use Rattle.jobs.specs.declared.Head.{Head}
+use Rattle.jobs.specs.declared.Job.{Job}
+use Rattle.jobs.specs.declared.JobLine.{JobLine}
+use Rattle.jobs.specs.Zero.{zeroBody, noJob}
+use Rattle.jobs.specs.Parts.{withHead, withEnds, withInverse, withSteps, withSystem}
+use Rattle.line_read.specs.States.{Leads}
+use Rattle.job_form.specs.declared.JobRead.{JobRead}
+use Rattle.job_form.specs.JobForm.{jobForm}
+use Rattle.job_read.specs.declared.HeadAt.{HeadAt}
+use Rattle.job_read.specs.declared.BoxAt.{BoxAt}
+use Rattle.job_read.specs.declared.SystemAt.{SystemAt}
+
+-- "n: 1 to 4"
+pub record Whole (head : Head) : Type 0 where
+  pub some : 0 < head .n
+  pub few : head .n ≤ nMax
+
+pub record HeadFrom (t : List ℕ) (r : HeadAt) : Type 0 where
+  pub leads : Leads jobForm t 0 JobLine.Number noJob (r .status) JobLine.Lo (withHead noJob (r .head)) (r .next)
+  pub whole : isBad (r .status) ≡ false → Whole (r .head)
+
+abbrev pub withBox : Job → BoxAt → Job
+withBox j b = withSteps (withInverse (withEnds j (b .ends)) (b .inv)) (b .steps)
+
+-- whatever else the lines before say, those of the box add it
+pub record BoxFrom (t : List ℕ) (a : ℕ) (head : Head) (r : BoxAt) : Type 0 where
+  pub leads : (j : Job) → j .head ≡ head
+      → Leads jobForm t a JobLine.Lo j (r .status) (JobLine.System 0) (withBox j r) (r .next)
+
+-- those of the system add it to a job that has none
+pub record SystemFrom (t : List ℕ) (a : ℕ) (head : Head) (r : SystemAt) : Type 0 where
+  pub leads : (j : Job) → j .head ≡ head → j .system ≡ zeroBody
+      → Leads jobForm t a (JobLine.System 0) j (r .status) JobLine.End (withSystem j (r .system)) (r .next)
+
+abbrev pub refusedWith : Status → JobRead
+refusedWith st = record { status = st; job = noJob }

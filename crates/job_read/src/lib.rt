@@ -1,0 +1,95 @@
+// The reader of a job text, line after line from where each begins. The parts of the job are put together once.
+mod first;
+mod system;
+
+ghost use mathlib.Core.Path.{_≡_};
+ghost use Rattle.job_form.specs.JobForm.{readJob};
+ghost use Rattle.job_read.specs.Parts.{refusedWith};
+use faults::Fault;
+use faults::Status;
+use faults::is_bad;
+use first::box_at;
+use first::head_at;
+use job_form::JobRead;
+use jobs::Body;
+use jobs::Ends;
+use jobs::Head;
+use jobs::Job;
+use jobs::JobLine;
+use jobs::Row;
+use jobs::lines::job_line_number;
+use jobs::zero::no_job;
+use sizes::N;
+use sizes::TEXT;
+use system::system_at;
+
+// What some lines say, and where the next line begins. Beside a fault the rest is any.
+struct HeadAt {
+    status: Status,
+    head: Head,
+    next: usize,
+}
+
+struct BoxAt {
+    status: Status,
+    ends: Ends,
+    inv: [Row; N],
+    steps: u64,
+    next: usize,
+}
+
+struct SystemAt {
+    status: Status,
+    system: Body,
+    next: usize,
+}
+
+fn refused(status: Status) -> JobRead
+    ensures { λ r. ⌜ r ≡ refusedWith status ⌝ }
+{
+    JobRead {
+        status,
+        job: no_job(),
+    }
+}
+
+// The whole text.
+pub fn read_job(text: &[u8]) -> JobRead
+    ensures { λ r. ⌜ r ≡ readJob (now (text .entry)) ⌝ }
+{
+    if TEXT < text.len() {
+        return refused(Status::Refused(Fault::LongText, 0));
+    }
+    let h = head_at(text);
+    let told = h.status;
+    if is_bad(told) {
+        return refused(told);
+    }
+    let head = h.head;
+    let b = box_at(text, h.next, head);
+    let boxed = b.status;
+    if is_bad(boxed) {
+        return refused(boxed);
+    }
+    let s = system_at(text, b.next, head);
+    let solved = s.status;
+    if is_bad(solved) {
+        return refused(solved);
+    }
+    if s.next < text.len() {
+        return refused(Status::Refused(Fault::Spelling, job_line_number(JobLine::End, head)));
+    }
+    let ends = b.ends;
+    let inv = b.inv;
+    let system = s.system;
+    JobRead {
+        status: Status::Done,
+        job: Job {
+            head,
+            ends,
+            inv,
+            steps: b.steps,
+            system,
+        },
+    }
+}

@@ -1,0 +1,148 @@
+-- `job_write::system::put_system_line` meets its contract.
+use borrow.Author.Needs.{needs}
+use native.Mathlib.Omega.{arith}
+use lib.ListN.{getD}
+use lib.IntN.{pos}
+use mir.Facts.{toZ-ofZ}
+use mir.Val.{SFits}
+use mir.Syntax.{w64}
+use Rattle.sizes.specs.Sizes.{entryMax}
+use Rattle.jobs.specs.Places.{rowAt}
+use Rattle.lines.proofs.Checks.{within-small}
+use Rattle.job_form.specs.JobBytes.{systemText}
+use Rattle.job_write.proofs.Parts.{kind-good}
+use Rattle.job_write.proofs.system.put_system_line.Statement.{statement}
+use Rattle.job_write.proofs.system.put_system_line.Tie as tie
+
+enum-told : tie.Need-enum-told
+enum-told c = search needs
+
+mul-q : tie.Need-mul-q
+mul-q c = search needs
+
+element-copy-out-q : tie.Need-element-copy-out-q
+element-copy-out-q c = search needs
+
+put-equation-line-requires : tie.Need-put-equation-line-requires
+put-equation-line-requires c κs =
+    let start = c .before .before .before .before .before .before .before in
+    let a = start .pre .accepted in
+    record {
+      few = a .few;
+      room = omega (arith, start .pre .room);
+      good = kind-good (start .args .j) (start .args .i) (c .before .before .enum-told .given .1)
+          (a .system (start .args .i) (start .pre .live));
+    }
+
+enum-told-2 : tie.Need-enum-told-2
+enum-told-2 c = search needs
+
+mul-row : tie.Need-mul-row
+mul-row c = search needs
+
+element-copy-out-row : tie.Need-element-copy-out-row
+element-copy-out-row c = search needs
+
+mul-put-sided-line : tie.Need-mul-put-sided-line
+mul-put-sided-line c = search needs
+
+array-copy-out-put-sided-line : tie.Need-array-copy-out-put-sided-line
+array-copy-out-put-sided-line c = search needs
+
+put-sided-line-requires : tie.Need-put-sided-line-requires
+put-sided-line-requires c κs =
+    let start = c .before .before .before .before .before .before .before .before .before .before in
+    let a = start .pre .accepted in
+    let j = start .args .j in
+    let i = start .args .i in
+    let told = c .before .before .before .before .before in
+    let good = kind-good j i (told .enum-told2 .given .1) (a .system i (start .pre .live)) in
+    let e : SFits w64 (getD (j .system .right) i (pos 0)) = search needs in
+    record {
+      some = a .some;
+      few = a .few;
+      room = omega (arith, start .pre .room);
+      left = good .0;
+      side = rw (toZ-ofZ e) (good .1);
+    }
+
+enum-told-3 : tie.Need-enum-told-3
+enum-told-3 c = search needs
+
+mul-row-2 : tie.Need-mul-row-2
+mul-row-2 c = search needs
+
+element-copy-out-row-2 : tie.Need-element-copy-out-row-2
+element-copy-out-row-2 c = search needs
+
+slice-aggregate-put-row-line : tie.Need-slice-aggregate-put-row-line
+slice-aggregate-put-row-line c = search needs
+
+put-row-line-requires : tie.Need-put-row-line-requires
+put-row-line-requires c κs =
+    let start = c .before .before .before .before .before .before .before .before .before in
+    let a = start .pre .accepted in
+    let j = start .args .j in
+    let i = start .args .i in
+    record {
+      few = a .few;
+      room = omega (arith, start .pre .room);
+      small = within-small (j .head .n) (rowAt (j .system .rows) i) entryMax (omega arith)
+          (kind-good j i (c .before .before .before .before .enum-told3 .given .1) (a .system i (start .pre .live)));
+    }
+
+same-length : tie.Need-same-length
+same-length c = search needs
+
+returns : tie.Need-returns
+unfolding systemText
+returns c =
+    let wrote = c .before .before in
+    rw (wrote .before .before .before .enum-told .given .1) (wrote .put-equation-line .ensures)
+
+same-length-2 : tie.Need-same-length-2
+same-length-2 c = search needs
+
+returns-2 : tie.Need-returns-2
+unfolding systemText
+returns-2 c =
+    let wrote = c .before .before in
+    let told = wrote .before .before .before .before .before .before in
+    let start = told .before .before .before .before .before in
+    let e : SFits w64 (getD (start .args .j .system .right) (start .args .i) (pos 0)) = search needs in
+    rw (told .enum-told2 .given .1, ← toZ-ofZ e) (wrote .put-sided-line .ensures)
+
+same-length-3 : tie.Need-same-length-3
+same-length-3 c = search needs
+
+returns-3 : tie.Need-returns-3
+unfolding systemText
+returns-3 c =
+    let wrote = c .before .before in
+    rw (wrote .before .before .before .before .before .enum-told3 .given .1) (wrote .put-row-line .ensures)
+
+pub put-system-line-spec : {M : Type 1} → statement M
+put-system-line-spec =
+    tie.close
+    (tie.spec
+    enum-told
+    mul-q
+    element-copy-out-q
+    put-equation-line-requires
+    enum-told-2
+    mul-row
+    element-copy-out-row
+    mul-put-sided-line
+    array-copy-out-put-sided-line
+    put-sided-line-requires
+    enum-told-3
+    mul-row-2
+    element-copy-out-row-2
+    slice-aggregate-put-row-line
+    put-row-line-requires
+    same-length
+    returns
+    same-length-2
+    returns-2
+    same-length-3
+    returns-3)

@@ -1,9 +1,0 @@
-pub mod Rows
-pub mod LinesRead
-pub mod SystemRead
-pub mod WriteBack
-pub mod Settled
-pub mod LiveJobs
-pub mod LinesBack
-pub mod SystemBack
-pub mod ReadBack

@@ -1,4 +1,0 @@
-pub mod Stays
-pub mod Settled
-pub mod Zero
-pub mod Turns

@@ -1,0 +1,4 @@
+pub mod Checked
+pub mod Single
+pub mod Tells
+pub mod Ways

@@ -1,0 +1,51 @@
+-- `line_read::counts::unknowns_line` meets its contract.
+use mathlib.Core.Path.{refl, ap₂, _∙_}
+use Rattle.faults.specs.Checks.{firstOf}
+use Rattle.text.specs.Keys.{bodyOf}
+use Rattle.jobs.specs.Checks.{unknownsCheck}
+use Rattle.text.specs.Words.{nKey}
+use Rattle.lines.specs.Lines.{digitIs, unknownsOf}
+use Rattle.line_read.specs.At.{unknownsAt}
+use Rattle.line_read.proofs.Checked.{checked-line, digit-spells}
+use borrow.Author.Needs.{needs}
+use Rattle.line_read.proofs.counts.unknowns_line.Statement.{statement}
+use Rattle.line_read.proofs.counts.unknowns_line.Tie as tie
+
+slice-aggregate-digit-at : tie.Need-slice-aggregate-digit-at
+slice-aggregate-digit-at c = search needs
+
+digit-at-requires : tie.Need-digit-at-requires
+digit-at-requires c κs = search needs
+
+bad-unless-requires : tie.Need-bad-unless-requires
+bad-unless-requires c κs = search needs
+
+unknowns-check-requires : tie.Need-unknowns-check-requires
+unknowns-check-requires c κs = search needs
+
+first-of-requires : tie.Need-first-of-requires
+first-of-requires c κs = search needs
+
+judged-requires : tie.Need-judged-requires
+judged-requires c κs = search needs
+
+returns : tie.Need-returns
+unfolding unknownsOf
+returns c =
+    checked-line unknownsAt (λ f b e. refl) (λ l. digitIs (bodyOf nKey l)) unknownsCheck _ _
+    (digit-spells nKey _ _ (c .before .before .before .before .digit-at .ensures))
+    (c .before .first-of .ensures
+    ∙ ap₂ firstOf (c .before .before .before .bad-unless .ensures) (c .before .before .unknowns-check .ensures))
+    (c .judged .ensures)
+
+pub unknowns-line-spec : {M : Type 1} → statement M
+unknowns-line-spec =
+    tie.close
+    (tie.spec
+    slice-aggregate-digit-at
+    digit-at-requires
+    bad-unless-requires
+    unknowns-check-requires
+    first-of-requires
+    judged-requires
+    returns)

@@ -1,0 +1,12 @@
+pub mod Squares
+pub mod Found
+pub mod Words
+pub mod Was
+pub mod Checks
+pub mod Unknowns
+pub mod Rows
+pub mod Back
+pub mod Told
+pub mod Equations
+pub mod Trips
+pub mod Faults

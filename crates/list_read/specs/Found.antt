@@ -1,0 +1,24 @@
+-- What is found of the spelling of a list.
+use Prim.Native.Nat.{ℕ}
+use mathlib.Core.Bool.{not}
+use lib.Dec.{eqb}
+use Rattle.faults.specs.declared.Fault.{Fault}
+use Rattle.faults.specs.declared.Finding.{Finding}
+use Rattle.faults.specs.Checks.{badUnless, firstOf}
+use Rattle.jobs.specs.declared.Equation.{Equation}
+use Rattle.termtext.specs.declared.Terms.{Terms}
+use Rattle.reading.specs.Got.{Got, refuse}
+use Rattle.scan.specs.declared.Listed.{Listed}
+use Rattle.scan_terms.specs.declared.TermsAt.{TermsAt}
+
+-- n numbers, well spelled: "a list of the wrong count" is 2
+unfoldable pub countFound : Listed → ℕ → Finding
+countFound l n = firstOf (badUnless (l .ok) Fault.Spelling) (badUnless (eqb (l .count) n) Fault.Spelling)
+
+-- terms, well spelled, with coefficients in their range
+unfoldable pub termsFound : TermsAt → Finding
+termsFound l = firstOf (badUnless (l .ok) Fault.Spelling) (badUnless (not (l .far)) Fault.Beyond)
+
+-- its equation before it is checked
+unfoldable pub termsIs : Terms → Got Fault Equation
+termsIs a = refuse (not (a .ok)) Fault.Spelling (refuse (a .far) Fault.Beyond (Got.got (a .equation)))

@@ -1,0 +1,12 @@
+pub mod Told
+pub mod Blamed
+pub mod Ends
+pub mod Decided
+pub mod Goes
+pub mod Parts
+pub mod Reading
+pub mod Plain
+pub mod Refused
+pub mod Walk
+pub mod Trips
+pub mod NumberLines

@@ -1,0 +1,6 @@
+pub mod Got
+pub mod NumberLines
+pub mod Lines
+pub mod Places
+pub mod Shows
+pub mod Refused

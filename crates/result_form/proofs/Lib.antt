@@ -1,0 +1,4 @@
+pub mod Back
+pub mod Grows
+pub mod Trips
+pub mod Answers

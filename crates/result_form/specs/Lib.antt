@@ -1,0 +1,2 @@
+pub mod ResultForm
+pub mod ResultShows

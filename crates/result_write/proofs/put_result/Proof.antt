@@ -1,0 +1,110 @@
+-- `result_write::put_result` meets its contract: five lines, one after the other.
+use borrow.Author.Needs.{needs}
+use native.Mathlib.Omega.{arith}
+use Rattle.writing.proofs.Wrote.{wrote-line, wrote-last}
+use Rattle.result_write.proofs.Ready.{lines-short}
+use Rattle.result_write.proofs.put_result.Statement.{statement}
+use Rattle.result_write.proofs.put_result.Tie as tie
+
+slice-aggregate-put-count-line : tie.Need-slice-aggregate-put-count-line
+slice-aggregate-put-count-line c = search needs
+
+put-count-line-requires : tie.Need-put-count-line-requires
+put-count-line-requires c κs = search needs
+
+put-verdict-requires : tie.Need-put-verdict-requires
+put-verdict-requires c κs =
+    let job = c .before .before .before in
+    let start = job .before .before .before .before .before .before in
+    omega (arith, job .put-count-line .ensures .next, lines-short (start .args .r) (start .pre .few))
+
+slice-aggregate-put-count-line-2 : tie.Need-slice-aggregate-put-count-line-2
+slice-aggregate-put-count-line-2 c = search needs
+
+put-count-line-requires-2 : tie.Need-put-count-line-requires-2
+put-count-line-requires-2 c κs =
+    let verdict = c .before .before .before .before in
+    let job = verdict .before .before .before .before in
+    let start = job .before .before .before .before .before .before in
+    omega (
+      arith,
+      job .put-count-line .ensures .next,
+      verdict .put-verdict .ensures .next,
+      lines-short (start .args .r) (start .pre .few),
+    )
+
+slice-aggregate-put-row-line : tie.Need-slice-aggregate-put-row-line
+slice-aggregate-put-row-line c = search needs
+
+put-row-line-requires : tie.Need-put-row-line-requires
+put-row-line-requires c κs =
+    let steps = c .before .before .before .before in
+    let verdict = steps .before .before .before .before .before in
+    let job = verdict .before .before .before .before in
+    let start = job .before .before .before .before .before .before in
+    record {
+      few = start .pre .few;
+      room = omega (
+        arith,
+        job .put-count-line .ensures .next,
+        verdict .put-verdict .ensures .next,
+        steps .put-count-line2 .ensures .next,
+        lines-short (start .args .r) (start .pre .few),
+      );
+      small = start .pre .low;
+    }
+
+slice-aggregate-put-row-line-2 : tie.Need-slice-aggregate-put-row-line-2
+slice-aggregate-put-row-line-2 c = search needs
+
+put-row-line-requires-2 : tie.Need-put-row-line-requires-2
+put-row-line-requires-2 c κs =
+    let lo = c .before .before .before .before in
+    let steps = lo .before .before .before .before .before in
+    let verdict = steps .before .before .before .before .before in
+    let job = verdict .before .before .before .before in
+    let start = job .before .before .before .before .before .before in
+    record {
+      few = start .pre .few;
+      room = omega (
+        arith,
+        job .put-count-line .ensures .next,
+        verdict .put-verdict .ensures .next,
+        steps .put-count-line2 .ensures .next,
+        lo .put-row-line .ensures .next,
+        lines-short (start .args .r) (start .pre .few),
+      );
+      small = start .pre .high;
+    }
+
+same-length : tie.Need-same-length
+same-length c = search needs
+
+returns : tie.Need-returns
+returns c =
+    let hi = c .before .before in
+    let lo = hi .before .before .before .before .before in
+    let steps = lo .before .before .before .before .before in
+    let verdict = steps .before .before .before .before .before in
+    let job = verdict .before .before .before .before in
+    wrote-line _ _ (job .put-count-line .ensures)
+    (wrote-line _ _ (verdict .put-verdict .ensures)
+    (wrote-line _ _ (steps .put-count-line2 .ensures)
+    (wrote-line _ _ (lo .put-row-line .ensures)
+    (wrote-last _ (hi .put-row-line2 .ensures)))))
+
+pub put-result-spec : {M : Type 1} → statement M
+put-result-spec =
+    tie.close
+    (tie.spec
+    slice-aggregate-put-count-line
+    put-count-line-requires
+    put-verdict-requires
+    slice-aggregate-put-count-line-2
+    put-count-line-requires-2
+    slice-aggregate-put-row-line
+    put-row-line-requires
+    slice-aggregate-put-row-line-2
+    put-row-line-requires-2
+    same-length
+    returns)

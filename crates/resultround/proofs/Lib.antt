@@ -1,4 +1,0 @@
-pub mod ReadBack
-pub mod LinesRead
-pub mod WriteBack
-pub mod Settled

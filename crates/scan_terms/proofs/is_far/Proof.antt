@@ -1,0 +1,18 @@
+-- `scan_terms::is_far` meets its contract.
+use mir.Syntax.{w64}
+use mir.Val.{SFits}
+use mir.Facts.{toZ-ofZ}
+use borrow.Author.Needs.{needs}
+use Rattle.scan_terms.proofs.is_far.Statement.{statement}
+use Rattle.scan_terms.proofs.is_far.Tie as tie
+
+within-requires : tie.Need-within-requires
+within-requires c κs = search needs
+
+returns : tie.Need-returns
+returns c =
+    let fits : SFits w64 (c .before .before .args .t .coef) = search needs in
+    rw (c .within .ensures, toZ-ofZ fits)
+
+pub is-far-spec : {M : Type 1} → statement M
+is-far-spec = tie.close (tie.spec within-requires returns)

@@ -1,0 +1,106 @@
+-- `units::sides::put_unknown` meets its contract.
+use borrow.Author.Needs.{needs}
+use native.Mathlib.Omega.{arith}
+use mir.Facts.{toZ-ofZ}
+use Rattle.digits.specs.Number.{digitsMax}
+use Rattle.digits.proofs.Show.{show-short}
+use Rattle.writing.specs.Wrote.{line}
+use Rattle.writing.proofs.Wrote.{wrote-append}
+use Rattle.units.specs.Show.{unknownLine}
+use Rattle.units.proofs.Short.{ends-short}
+use Rattle.units.proofs.sides.put_unknown.Statement.{statement}
+use Rattle.units.proofs.sides.put_unknown.Tie as tie
+
+slice-aggregate-put-bytes : tie.Need-slice-aggregate-put-bytes
+slice-aggregate-put-bytes c = search needs
+
+put-bytes-requires : tie.Need-put-bytes-requires
+put-bytes-requires c κs = search needs
+
+put-magnitude-requires : tie.Need-put-magnitude-requires
+put-magnitude-requires c κs = search needs
+
+slice-aggregate-put-bytes-2 : tie.Need-slice-aggregate-put-bytes-2
+slice-aggregate-put-bytes-2 c = search needs
+
+put-bytes-requires-2 : tie.Need-put-bytes-requires-2
+put-bytes-requires-2 c κs =
+    let count = c .before .before .before .before in
+    let word = count .before .before .before .before in
+    let start = word .before .before .before .before in
+    omega (
+      arith,
+      count .put-magnitude .ensures .next,
+      show-short digitsMax (start .args .k),
+      word .put-bytes .ensures .next,
+      start .pre .0,
+    )
+
+put-ends-requires : tie.Need-put-ends-requires
+put-ends-requires c κs =
+    let mark = c .before .before .before in
+    let count = mark .before .before .before .before .before in
+    let word = count .before .before .before .before in
+    let start = word .before .before .before .before in (
+      omega (
+        arith,
+        mark .put-bytes2 .ensures .next,
+        count .put-magnitude .ensures .next,
+        show-short digitsMax (start .args .k),
+        word .put-bytes .ensures .next,
+        start .pre .0,
+      ),
+      rw (toZ-ofZ (start .fits .lo)) (start .pre .1),
+      rw (toZ-ofZ (start .fits .hi)) (start .pre .2),
+    )
+
+put-byte-requires : tie.Need-put-byte-requires
+put-byte-requires c κs =
+    let ends = c .before .before .before in
+    let mark = ends .before .before .before .before in
+    let count = mark .before .before .before .before .before in
+    let word = count .before .before .before .before in
+    let start = word .before .before .before .before in
+    let written = rw (toZ-ofZ (start .fits .lo), toZ-ofZ (start .fits .hi)) at (ends .put-ends .ensures) in
+    omega (
+      arith,
+      written .next,
+      ends-short (start .args .lo) (start .args .hi),
+      mark .put-bytes2 .ensures .next,
+      count .put-magnitude .ensures .next,
+      show-short digitsMax (start .args .k),
+      word .put-bytes .ensures .next,
+      start .pre .0,
+    )
+
+same-length : tie.Need-same-length
+same-length c = search needs
+
+returns : tie.Need-returns
+unfolding unknownLine line
+returns c =
+    let ends = c .before .before .before .before .before .before in
+    let mark = ends .before .before .before .before in
+    let count = mark .before .before .before .before .before in
+    let word = count .before .before .before .before in
+    let start = word .before .before .before .before in
+    let written = rw (toZ-ofZ (start .fits .lo), toZ-ofZ (start .fits .hi)) at (ends .put-ends .ensures) in
+    wrote-append
+    (wrote-append
+    (wrote-append (wrote-append (word .put-bytes .ensures) (count .put-magnitude .ensures)) (mark .put-bytes2 .ensures))
+    written)
+    (c .before .before .put-byte .ensures)
+
+pub put-unknown-spec : {M : Type 1} → statement M
+put-unknown-spec =
+    tie.close
+    (tie.spec
+    slice-aggregate-put-bytes
+    put-bytes-requires
+    put-magnitude-requires
+    slice-aggregate-put-bytes-2
+    put-bytes-requires-2
+    put-ends-requires
+    put-byte-requires
+    same-length
+    returns)
