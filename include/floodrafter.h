@@ -1,4 +1,4 @@
-/* Floodrafter for C: job texts answered, job and result texts checked and written again.
+/* Floodrafter for C: job texts answered, job and result texts checked, explained and written again.
  *
  * Link with target/staticlib/libfloodrafter_c.a (x86-64), which `rt staticlib floodrafter_c` proves and writes. docs/C.md has an example.
  *
@@ -16,6 +16,9 @@ extern "C" {
 
 /* The longest text that is taken. A buffer of this size is enough for every answer. */
 #define FLOODRAFTER_TEXT_MAX 2048
+
+/* The longest sentence beside a fault. */
+#define FLOODRAFTER_SENTENCE_MAX 256
 
 /* The faults of document 01. */
 enum floodrafter_fault {
@@ -53,6 +56,14 @@ floodrafter_answer floodrafter_check_job(const uint8_t *text, size_t text_len);
 
 /* Checks the result text `text` and writes nothing: `len` is 0. Faults: 1 to 5 and 8. */
 floodrafter_answer floodrafter_check_result(const uint8_t *text, size_t text_len);
+
+/* Writes into `out` a plain sentence for whoever typed the job text `text`: what stands at its fault and what is expected there.
+ * Returns the sentence's length, at most FLOODRAFTER_SENTENCE_MAX and 0 where the text has no fault. It is ASCII and has no line feed and no 0 at
+ * its end. Of a sentence that is longer than `out` only the room is written; the bytes of `out` beyond it are the old ones. */
+size_t floodrafter_explain_job(const uint8_t *text, size_t text_len, uint8_t *out, size_t out_len);
+
+/* The same for a result text. */
+size_t floodrafter_explain_result(const uint8_t *text, size_t text_len, uint8_t *out, size_t out_len);
 
 #ifdef __cplusplus
 }

@@ -30,7 +30,9 @@ int main(int argc, char **argv)
 
     floodrafter_answer a = floodrafter_solve(text, len, out, sizeof out);
     if (a.fault != FLOODRAFTER_DONE) {
-        fprintf(stderr, "%s:%" PRIu64 ": fault %" PRIu64 "\n", argv[1], a.line, a.fault);
+        uint8_t sentence[FLOODRAFTER_SENTENCE_MAX];
+        size_t told = floodrafter_explain_job(text, len, sentence, sizeof sentence);
+        fprintf(stderr, "%s:%" PRIu64 ": fault %" PRIu64 ": %.*s\n", argv[1], a.line, a.fault, (int)told, (char *)sentence);
         return 1;
     }
     if (fwrite(out, 1, a.len, stdout) != a.len || fflush(stdout) != 0) {

@@ -11,6 +11,7 @@ enum { ROOM = 2 * FLOODRAFTER_TEXT_MAX, OLD = 0xA5, PRINTED = 64 };
 
 typedef floodrafter_answer writer(const uint8_t *text, size_t text_len, uint8_t *out, size_t out_len);
 typedef floodrafter_answer checker(const uint8_t *text, size_t text_len);
+typedef size_t explainer(const uint8_t *text, size_t text_len, uint8_t *out, size_t out_len);
 
 /* A request, the answer that is expected, and how many came before it. */
 struct asked {
@@ -74,7 +75,31 @@ static void expect_text(const struct asked *r, writer *write, floodrafter_answer
     expect_short(r, write, 0);
 }
 
-static void ask(const struct asked *r, writer *write, checker *check)
+static bool is_plain(const uint8_t *from, size_t len)
+{
+    for (size_t i = 0; i < len; i++)
+        if (from[i] < ' ' || from[i] > '~')
+            return false;
+    return true;
+}
+
+/* A sentence exactly beside a fault, of the same length in any buffer; of a short one only the room is written. */
+static void expect_sentence(const struct asked *r, explainer *explain, bool fault)
+{
+    uint8_t out[ROOM], part[ROOM];
+    memset(out, OLD, sizeof out);
+    size_t len = explain(r->request.text.at, r->request.text.len, out, sizeof out);
+    expect(fault == (len > 0), r, "a sentence without a fault, or none beside one");
+    expect(len <= FLOODRAFTER_SENTENCE_MAX, r, "a sentence that is too long");
+    expect(is_plain(out, len), r, "a sentence that is not plain text");
+    expect(is_old(out + len, ROOM - len), r, "bytes beyond the sentence");
+    memset(part, OLD, sizeof part);
+    expect(explain(r->request.text.at, r->request.text.len, part, len / 2) == len, r, "another length in a short buffer");
+    expect(memcmp(part, out, len / 2) == 0, r, "another sentence in a short buffer");
+    expect(is_old(part + len / 2, ROOM - len / 2), r, "bytes beyond a short buffer");
+}
+
+static void ask(const struct asked *r, writer *write, checker *check, explainer *explain)
 {
     uint8_t out[ROOM];
     memset(out, OLD, sizeof out);
@@ -85,16 +110,17 @@ static void ask(const struct asked *r, writer *write, checker *check)
         expect_text(r, write, a, out);
     floodrafter_answer c = check(r->request.text.at, r->request.text.len);
     expect(c.fault == a.fault && c.line == a.line && c.len == 0, r, "the check differs");
+    expect_sentence(r, explain, a.fault != FLOODRAFTER_DONE);
 }
 
 static void ask_by_word(const struct asked *r)
 {
     if (strcmp(r->request.word, "solve") == 0)
-        ask(r, floodrafter_solve, floodrafter_check_job);
+        ask(r, floodrafter_solve, floodrafter_check_job, floodrafter_explain_job);
     else if (strcmp(r->request.word, "job") == 0)
-        ask(r, floodrafter_rewrite_job, floodrafter_check_job);
+        ask(r, floodrafter_rewrite_job, floodrafter_check_job, floodrafter_explain_job);
     else if (strcmp(r->request.word, "result") == 0)
-        ask(r, floodrafter_rewrite_result, floodrafter_check_result);
+        ask(r, floodrafter_rewrite_result, floodrafter_check_result, floodrafter_explain_result);
     else
         expect(false, r, "no such request");
 }

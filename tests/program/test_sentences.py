@@ -1,60 +1,136 @@
 """Every fault by its two lines, its sentence on standard error and exit status 1."""
 
+import re
 import unittest
 
-from calls import EXAMPLES, JOB, MAX_TEXT, RESULT, call
+from calls import EXAMPLES, JOB, MAX_TEXT, RESULT, ROOT, call
 
-LINE = ", and one line feed"
-NUMBERS = LINE + " (a number is an optional minus and 1 to 9 digits with no leading zero)"
-NOTHING = "expected nothing after the last line"
-ENDS = "the ends of the box lie from -262144 to 262144"
-ENTRIES = "coefficients and entries lie from -4194304 to 4194304"
+NUMBER = "; expected job= and the job's number"
+KIND = "; expected kind=poly, kind=linear or kind=eigen"
+DIGIT = "; expected n= and one digit"
+LO = "; expected lo= and one number"
+HI = "; expected hi= and one number"
+INV = "; expected inv= and one number"
+STEPS = "; expected steps= and a number"
+EQ = "; expected eq= and terms coefficient:exponents joined by commas, exponent digits a term: 1"
+VERDICT = "; expected verdict=none, verdict=unique, verdict=stalled or verdict=spent"
+NUMBERS = "; expected lo= and numbers joined by commas"
 
 # the line that is put in place of that of a job for one unknown, its fault and its sentence
 JOB_FAULTS = [
-    (1, "job=x", 2, "expected job= and the job's number" + NUMBERS),
-    (2, "kind=cubic", 2, "expected kind=poly, kind=linear or kind=eigen" + LINE),
-    (3, "n=10", 2, "expected n= and one digit" + LINE),
-    (4, "lo=1,2", 2, "expected lo= and n numbers joined by commas" + NUMBERS),
-    (5, "hi=", 2, "expected hi= and n numbers joined by commas" + NUMBERS),
-    (6, "inv=+1", 2, "expected inv= and n times n numbers joined by commas, row by row" + NUMBERS),
-    (7, "step=8", 2, "expected steps= and a number" + NUMBERS),
-    (8, "eq=1", 2, "expected eq= and terms coefficient:exponents joined by commas,"
-                   " one exponent digit for each unknown" + NUMBERS),
-    (9, "eq=", 2, NOTHING),
-    (3, "n=5", 3, "there are 1 to 4 unknowns"),
-    (1, "job=-1", 4, "the job number lies from 0 to 999999999"),
-    (4, "lo=-262145", 4, ENDS),
-    (5, "hi=262145", 4, ENDS),
-    (6, "inv=4194305", 4, ENTRIES),
-    (8, "eq=4194305:0", 4, ENTRIES),
-    (5, "hi=65535", 5, "no high end may be below its low end"),
-    (8, "eq=" + ",".join(["1:0"] * 17), 6, "an equation has at most 16 terms"),
-    (8, "eq=1:2,0:1", 6, "no coefficient may be 0"),
-    (8, "eq=1:4", 6, "the exponents of a term add up to at most 3"),
-    (8, "eq=1:1,1:2", 6, "terms must stand in strictly falling order of their exponents"),
-    (7, "steps=1001", 8, "steps lie from 0 to 1000"),
+    (1, "job=x", 2, "the number has a character that is no digit" + NUMBER),
+    (1, "job=", 2, "the number is missing" + NUMBER),
+    (1, "job=041", 2, "the number begins with a zero and goes on: write it without that zero" + NUMBER),
+    (1, "job=1,2", 2, "the number is followed by a comma, and one number is all" + NUMBER),
+    (1, "job 41", 2, "line 1 does not begin with its key" + NUMBER),
+    (1, "\ufeffjob=41", 2, "the text begins with a byte order mark: save it as plain text without one"),
+    (1, "job=41\r", 2, "line 1 has a carriage return: save with Unix line ends"),
+    (2, "kind=cubic", 2, "line 2 has another word" + KIND),
+    (2, "kind=Poly", 2, "line 2 has a capital letter: all are small" + KIND),
+    (2, "kind=poly ", 2, "line 2 has a blank or a tab: write it with none"),
+    (2, "kind=poly\r", 2, "line 2 has a carriage return: save with Unix line ends"),
+    (3, "n=10", 2, "line 3 has not just one digit" + DIGIT),
+    (3, "n=", 2, "line 3 has not just one digit" + DIGIT),
+    (3, "n=1\r", 2, "line 3 has a carriage return: save with Unix line ends"),
+    (4, "hi=65536", 2, "line 4 begins with hi=, lo= is expected"),
+    (4, "Lo=65536", 2, "line 4 has a capital letter: all are small" + LO),
+    (4, "", 2, "line 4 is empty" + LO),
+    (4, "lo=65,536", 2, "n=1: 1 number expected, 2 found"),
+    (4, "lo= 65536", 2, "line 4 has a blank or a tab: write it with none"),
+    (4, "lo=65536\t", 2, "line 4 has a blank or a tab: write it with none"),
+    (5, "hi=", 2, "number 1 is missing" + HI),
+    (5, "hi=2.0", 2, "number 1 has a decimal point: numbers are marks, 1.5 is 98304" + HI),
+    (5, "hi=.5", 2, "number 1 has a decimal point: numbers are marks, 1.5 is 98304" + HI),
+    (5, "hi=131072,", 2, "number 2 is missing" + HI),
+    (5, "hi=131072,,1", 2, "number 2 is missing" + HI),
+    (6, "inv=+1", 2, "number 1 has a plus sign: write it with none" + INV),
+    (6, "inv=-0", 2, "number 1 has a zero right after its minus: write 0 with no minus" + INV),
+    (6, "inv=-", 2, "number 1 has no digit after its minus" + INV),
+    (6, "inv=1000000000", 2, "number 1 has over 9 digits" + INV),
+    (7, "step=8", 2, "line 7 does not begin with its key" + STEPS),
+    (7, "eq=65536:2", 2, "line 7 begins with eq=, steps= is expected"),
+    (8, "row=65536,131072", 2, "line 8 begins with row=, eq= is expected"),
+    (8, "eq=1", 2, "term 1 has no exponents" + EQ),
+    (8, "eq=65536:2,1", 2, "term 2 has no exponents" + EQ),
+    (8, "eq=65536:2,:1", 2, "the coefficient of term 2 has a character that is no digit" + EQ),
+    (8, "eq=65536:2,", 2, "the coefficient of term 2 is missing" + EQ),
+    (8, "eq=65536:2,01:1", 2,
+     "the coefficient of term 2 begins with a zero and goes on: write it without that zero" + EQ),
+    (8, "eq=65536:20", 2, "n=1: 1 exponent expected in term 1, 2 found"),
+    (8, "eq=65536:2,1:", 2, "n=1: 1 exponent expected in term 2, 0 found"),
+    (8, "eq=65536:2 ", 2, "line 8 has a blank or a tab: write it with none"),
+    (8, "eq=65536:2;1:1", 2, "term 1 is not followed by a comma" + EQ),
+    (9, "", 2, "line 9 is one too many: the line before it is the last"),
+    (9, "eq=", 2, "line 9 is one too many: the line before it is the last"),
+    (3, "n=5", 3, "there are 1 to 4 unknowns, not 5"),
+    (3, "n=0", 3, "there are 1 to 4 unknowns, not 0"),
+    (1, "job=-1", 4, "the job's number is -1: it lies from 0 to 999999999"),
+    (4, "lo=-262145", 4, "number 1 is -262145: ends lie from -262144 to 262144"),
+    (5, "hi=262145", 4, "number 1 is 262145: ends lie from -262144 to 262144"),
+    (6, "inv=4194305", 4, "number 1 is 4194305: entries lie from -4194304 to 4194304"),
+    (8, "eq=65536:2,-9000000:0", 4,
+     "the coefficient of term 2 is -9000000: coefficients lie from -4194304 to 4194304"),
+    (8, "eq=" + "1:0," * 16 + "9000000:0", 4, "coefficients and entries lie from -4194304 to 4194304"),
+    (5, "hi=65535", 5, "unknown 1: the high end 65535 is below the low end 65536"),
+    (8, "eq=" + ",".join(["1:0"] * 17), 6, "an equation has at most 16 terms, this one has 17"),
+    (8, "eq=1:2,0:1", 6, "the coefficient of term 2 is 0: leave the term out"),
+    (8, "eq=1:4", 6, "the exponents of term 1 add up to 4, at most 3 may be"),
+    (8, "eq=1:1,1:2", 6, "term 2 must stand before term 1: terms stand in falling order of their exponents"),
+    (8, "eq=1:3,1:2,2:2", 6, "terms 2 and 3 have the same exponents: make them one term"),
+    (7, "steps=1001", 8, "steps is 1001: it lies from 0 to 1000"),
 ]
 
 RESULT_FAULTS = [
-    (1, "job=", 2, "expected job= and the job's number" + NUMBERS),
-    (2, "verdict=yes", 2, "expected verdict=none, verdict=unique, verdict=stalled or verdict=spent" + LINE),
-    (3, "steps=01", 2, "expected steps= and a number" + NUMBERS),
-    (4, "lo=", 2, "expected lo= and numbers joined by commas, one at least" + NUMBERS),
-    (5, "hi=1,2", 2, "expected hi= and as many numbers as lo has, joined by commas" + NUMBERS),
-    (6, "lo=1", 2, NOTHING),
-    (4, "lo=0,0,0,0,0", 3, "there are 1 to 4 unknowns"),
-    (1, "job=-1", 4, "the job number lies from 0 to 999999999"),
-    (4, "lo=262145", 4, ENDS),
-    (5, "hi=-262145", 4, ENDS),
-    (5, "hi=0", 5, "no high end may be below its low end"),
-    (3, "steps=-1", 8, "steps lie from 0 to 1000"),
+    (1, "job=", 2, "the number is missing" + NUMBER),
+    (2, "verdict=yes", 2, "line 2 has another word" + VERDICT),
+    (3, "steps=01", 2, "the number begins with a zero and goes on: write it without that zero" + STEPS),
+    (4, "lo=", 2, "number 1 is missing" + NUMBERS),
+    (4, "lo=1;2", 2, "number 1 has a character that is no digit" + NUMBERS),
+    (5, "hi=1,2", 2, "n=1: 1 number expected, 2 found"),
+    (6, "lo=1", 2, "line 6 is one too many: the line before it is the last"),
+    (4, "lo=0,0,0,0,0", 3, "there are 1 to 4 unknowns, not 5"),
+    (1, "job=-1", 4, "the job's number is -1: it lies from 0 to 999999999"),
+    (4, "lo=262145", 4, "number 1 is 262145: ends lie from -262144 to 262144"),
+    (5, "hi=-262145", 4, "number 1 is -262145: ends lie from -262144 to 262144"),
+    (5, "hi=0", 5, "unknown 1: the high end 0 is below the low end 81919"),
+    (3, "steps=-1", 8, "steps is -1: it lies from 0 to 1000"),
 ]
+
+# jobs of two and three unknowns, with lines that have several numbers
+SEVERAL = [
+    ("load.txt", 6, "inv=1,2,3", 2, "n=3: 9 numbers expected, 3 found"),
+    ("load.txt", 6, "inv=1,2,3,4,5,6,7,8,4194305", 4,
+     "number 9 is 4194305: entries lie from -4194304 to 4194304"),
+    ("load.txt", 4, "lo=0,,0", 2, "number 2 is missing; expected lo= and 3 numbers joined by commas"),
+    ("load.txt", 8, "row=x", 2,
+     "number 1 has a character that is no digit; expected row= and 4 numbers joined by commas, the right side last"),
+    ("load.txt", 9, "row=1,2", 2, "n=3: 4 numbers expected, 2 found"),
+    ("mode.txt", 8, "row=x", 2,
+     "number 1 has a character that is no digit; expected row= and 3 numbers joined by commas"),
+    ("hinge-near.txt", 5, "hi=81920,32767", 5, "unknown 2: the high end 32767 is below the low end 32768"),
+    ("hinge-near.txt", 8, "eq=1:2", 2, "n=2: 2 exponents expected in term 1, 1 found"),
+    ("hinge-near.txt", 8, "eq=1:02,1:20", 6,
+     "term 2 must stand before term 1: terms stand in falling order of their exponents"),
+]
+
+
+# a row of the typists' page whose slip is a line that stands in place of the one with its key
+ROW = re.compile(r"^\| (\d) (?:\|.*)?\| `((\w+=)[^`]*)`[^|]*\| (\d+) \| ([^|]+) \|$", re.MULTILINE)
+
+
+def rows():
+    """Those of both tables of the page: whether of a job, and what the row says."""
+    jobs, results = (ROOT / "docs" / "TEXTS.md").read_text().split("A result text that is read", 1)
+    for page, text, command in ((jobs, JOB, "job"), (results, RESULT, "result")):
+        for fault, line, key, number, sentence in ROW.findall(page):
+            keys = [place for place in text.decode().splitlines() if place.startswith(key)]
+            if keys:
+                yield command, text.replace(keys[0].encode(), line.encode()), int(fault), int(number), sentence
 
 
 def changed(text, number, line):
     """The text with that line in its place, or behind its last."""
-    lines = text.decode().splitlines()
+    lines = text.decode().split("\n")[:-1]
     lines[number - 1:number] = [line]
     return "".join(line + "\n" for line in lines).encode()
 
@@ -69,31 +145,53 @@ class Faults(unittest.TestCase):
                          (1, b"fault=%d\nline=%d\n" % (fault, number), f"{place}: fault {fault}: {sentence}\n"))
 
     def test_jobs(self):
-        for command in ("solve", "show", "job"):
-            for number, line, fault, sentence in JOB_FAULTS:
-                with self.subTest(command=command, line=line):
-                    self.refuses(command, changed(JOB, number, line), fault, number, sentence)
+        for number, line, fault, sentence in JOB_FAULTS:
+            with self.subTest(line=line):
+                self.refuses("job", changed(JOB, number, line), fault, number, sentence)
+
+    def test_commands(self):
+        for command in ("solve", "show"):
+            number, line, fault, sentence = JOB_FAULTS[0]
+            self.refuses(command, changed(JOB, number, line), fault, number, sentence)
 
     def test_results(self):
         for number, line, fault, sentence in RESULT_FAULTS:
             with self.subTest(line=line):
                 self.refuses("result", changed(RESULT, number, line), fault, number, sentence)
 
-    def test_rows(self):
-        linear = (EXAMPLES / "load.txt").read_bytes()
-        eigen = (EXAMPLES / "mode.txt").read_bytes()
-        for text, row in ((linear, "n + 1 numbers joined by commas, the right side last"),
-                          (eigen, "n numbers joined by commas")):
-            self.refuses("solve", changed(text, 8, "row=x"), 2, 8, f"expected row= and {row}{NUMBERS}")
+    def test_several(self):
+        for name, number, line, fault, sentence in SEVERAL:
+            with self.subTest(name=name, line=line):
+                self.refuses("job", changed((EXAMPLES / name).read_bytes(), number, line), fault, number, sentence)
+
+    def test_page(self):
+        page = list(rows())
+        self.assertGreater(len(page), 30)
+        for row in page:
+            with self.subTest(row=row):
+                self.refuses(*row)
 
     def test_too_long(self):
         for length in (MAX_TEXT + 1, 70_000):
-            self.refuses("solve", b"x" * length, 1, 0, f"a text has at most {MAX_TEXT} bytes")
-            self.refuses("result", b"x" * length, 1, 0, f"a text has at most {MAX_TEXT} bytes")
+            for command in ("solve", "result"):
+                self.refuses(command, b"x" * length, 1, 0, f"a text has at most {MAX_TEXT} bytes, this one has more")
 
     def test_empty(self):
-        self.refuses("solve", b"", 2, 1, "expected job= and the job's number" + NUMBERS)
-        self.refuses("result", b"", 2, 1, "expected job= and the job's number" + NUMBERS)
+        for command in ("solve", "result"):
+            self.refuses(command, b"", 2, 1, "the text is empty" + NUMBER)
+
+    def test_missing_line(self):
+        self.refuses("job", JOB[:JOB.index(b"eq=")], 2, 8, "line 8 is missing" + EQ)
+        self.refuses("result", RESULT[:RESULT.index(b"hi=")], 2, 5, "line 5 is missing" + HI)
+
+    def test_line_left_out(self):
+        self.refuses("job", JOB.replace(b"steps=8\n", b""), 2, 7, "line 7 begins with eq=, steps= is expected")
 
     def test_no_line_feed(self):
-        self.refuses("job", JOB[:-1], 2, 8, JOB_FAULTS[7][3])
+        for text, command, line in ((JOB, "job", 8), (RESULT, "result", 5), (b"job=41", "job", 1),
+                                    (b"job=41\nkind=poly", "job", 2), (b"job=41\nkind=poly\nn=1", "job", 3)):
+            ended = text if text.endswith(b"\n") else text + b"\n"
+            self.refuses(command, ended[:-1], 2, line, f"line {line} has no line feed: press Enter at its end")
+
+    def test_carriage_returns(self):
+        self.refuses("job", JOB.replace(b"\n", b"\r\n"), 2, 1, "line 1 has a carriage return: save with Unix line ends")

@@ -10,10 +10,12 @@ use Rattle.faults.specs.Answer.{refused, Leaves}
 use Rattle.faults.proofs.Answer.{values-bad}
 
 module _ {st : Status} {t old : List ℕ} where
-  pub read-bad : {f : Fault} {line : ℕ} (next : Status) → st ≡ Status.Refused f line → Leaves (andThen st next) t old old (refused (Status.Refused f line))
+  pub read-bad : {f : Fault} {line : ℕ} (next : Status)
+      → st ≡ Status.Refused f line → Leaves (andThen st next) t old old (refused (Status.Refused f line))
   unfolding andThen
   read-bad {f} {line} next e = rw e (values-bad t old f line)
 
-  pub read-good : {next : Status} {new : List ℕ} {a : Written} → st ≡ Status.Done → Leaves next t old new a → Leaves (andThen st next) t old new a
+  pub read-good : {next : Status} {new : List ℕ} {a : Written}
+      → st ≡ Status.Done → Leaves next t old new a → Leaves (andThen st next) t old new a
   unfolding andThen
   read-good e l = rw e l

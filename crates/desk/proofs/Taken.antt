@@ -14,7 +14,10 @@ use Rattle.result_form.proofs.Trips as result
 
 module _ (t : List ℕ) where
   pub job-taken : {r : JobRead} → r ≡ readJob t → r .status ≡ Status.Done → checkJob (r .job) ≡ Status.Done
-  job-taken {r} e d = job.write-read t (r .job) (sym e ∙ ap (λ (st : Status). record { status = st; job = r .job }) d) .1
+  job-taken {r} e d =
+      job.write-read t (r .job) (sym e ∙ ap (λ (st : Status). record { status = st; job = r .job }) d) .1
 
-  pub result-taken : {r : ResultRead} → r ≡ readResult t → r .status ≡ Status.Done → checkResult (r .result) ≡ Status.Done
-  result-taken {r} e d = result.write-read t (r .result) (sym e ∙ ap (λ (st : Status). record { status = st; result = r .result }) d) .1
+  pub result-taken : {r : ResultRead}
+      → r ≡ readResult t → r .status ≡ Status.Done → checkResult (r .result) ≡ Status.Done
+  result-taken {r} e d =
+      result.write-read t (r .result) (sym e ∙ ap (λ (st : Status). record { status = st; result = r .result }) d) .1

@@ -3,14 +3,16 @@ ghost use mathlib.Core.Path.{_≡_};
 ghost use Rattle.faults.specs.declared.Status.{Status};
 ghost use Rattle.faults.specs.Answer.{Leaves};
 ghost use Rattle.jobs.specs.Checks.{checkJob};
-ghost use Rattle.desk.specs.Desk.{jobStatus, jobText, resultStatus, resultText, runStatus, runText, solveStatus, solveText};
+ghost use Rattle.desk.specs.Desk.{jobStatus, jobText, resultStatus, resultText};
+ghost use Rattle.desk.specs.Desk.{runStatus, runText, solveStatus, solveText};
 use faults::Status;
 use faults::Written;
 use jobs::Job;
 
 // A result text, read and written again.
 pub fn rewrite_result(text: &[u8], out: &mut [u8]) -> Written
-    ensures { λ a. ⌜ Leaves (resultStatus (now (text .entry))) (resultText (now (text .entry))) (now (out .entry)) (now (out .exit)) a ⌝ }
+    ensures { λ a. ⌜ Leaves (resultStatus (now (text .entry))) (resultText (now (text .entry))) (now (out .entry))
+        (now (out .exit)) a ⌝ }
 {
     let read = result_read::read_result(text);
     let status = read.status;
@@ -25,7 +27,8 @@ pub fn rewrite_result(text: &[u8], out: &mut [u8]) -> Written
 
 // A job text, read and written again.
 pub fn rewrite_job(text: &[u8], out: &mut [u8]) -> Written
-    ensures { λ a. ⌜ Leaves (jobStatus (now (text .entry))) (jobText (now (text .entry))) (now (out .entry)) (now (out .exit)) a ⌝ }
+    ensures { λ a. ⌜ Leaves (jobStatus (now (text .entry))) (jobText (now (text .entry))) (now (out .entry))
+        (now (out .exit)) a ⌝ }
 {
     let read = job_read::read_job(text);
     let status = read.status;
@@ -48,7 +51,8 @@ fn write_run(j: Job, out: &mut [u8]) -> Written
 
 // A job text, answered by the text of its result.
 pub fn solve(text: &[u8], out: &mut [u8]) -> Written
-    ensures { λ a. ⌜ Leaves (solveStatus (now (text .entry))) (solveText (now (text .entry))) (now (out .entry)) (now (out .exit)) a ⌝ }
+    ensures { λ a. ⌜ Leaves (solveStatus (now (text .entry))) (solveText (now (text .entry))) (now (out .entry))
+        (now (out .exit)) a ⌝ }
 {
     let read = job_read::read_job(text);
     let status = read.status;

@@ -21,7 +21,8 @@ after : Magnitude → List ℕ → Magnitude
 after (Magnitude.Is u) ys = digitsFrom u ys
 after Magnitude.Bad ys = Magnitude.Bad
 
-after-cond : (t : Bool) (x : Magnitude) (ys : List ℕ) → after (cond t Magnitude.Bad x) ys ≡ cond t Magnitude.Bad (after x ys)
+after-cond : (t : Bool) (x : Magnitude) (ys : List ℕ)
+    → after (cond t Magnitude.Bad x) ys ≡ cond t Magnitude.Bad (after x ys)
 unfolding after
 after-cond true x ys = refl
 after-cond false x ys = refl
@@ -50,7 +51,8 @@ more k m ih q =
 
 pub digits-back : (k m : ℕ) → m < 10 ^ suc k → digitsFrom 0 (showMagnitude (suc k) m) ≡ Magnitude.Is m
 digits-back zero m h = few zero m (omega arith)
-digits-back (suc k) m h = either m 10 (few (suc k) m) (more (suc k) m (digits-back k (m / 10) (tenth-below (suc k) m h)))
+digits-back (suc k) m h =
+    either m 10 (few (suc k) m) (more (suc k) m (digits-back k (m / 10) (tenth-below (suc k) m h)))
 
 -- the first byte is a digit, and no 0 unless the number is 0
 first : (k m : ℕ) → m < 10 ^ suc k
@@ -86,6 +88,14 @@ unfolding readNumber showNumber withoutMinus withMinus
 number-back (pos m) h =
     let t = showMagnitude digitsMax m in
     let f = first 8 m h in
-    rw (ne-eqb (length t) 0 (omega (arith, show-long 8 m)), ne-eqb (getD t 0 0) minusSign (omega arith), magnitude-back m h)
+    rw (
+      ne-eqb (length t) 0 (omega (arith, show-long 8 m)),
+      ne-eqb (getD t 0 0) minusSign (omega arith),
+      magnitude-back m h,
+    )
 number-back (negsuc m) h =
-    rw (ne-eqb (suc (length (showMagnitude digitsMax (suc m)))) 0 (omega arith), magnitude-back (suc m) h, ne-eqb (suc m) 0 (omega arith))
+    rw (
+      ne-eqb (suc (length (showMagnitude digitsMax (suc m)))) 0 (omega arith),
+      magnitude-back (suc m) h,
+      ne-eqb (suc m) 0 (omega arith),
+    )

@@ -86,7 +86,8 @@ none-is v e = absurd (let z : _≡_ {A = ℕ} 0 1 = cc in omega arith)
 number-inj : (a b : ℤ) → Number.Is a ≡ Number.Is b → a ≡ b
 number-inj a b e = cc
 
-minus-was : (bs : List ℕ) (v : ℤ) (x : Magnitude) → readMagnitude bs ≡ x → withMinus x ≡ Number.Is v → showNumber v ≡ minusSign ∷ bs
+minus-was : (bs : List ℕ) (v : ℤ) (x : Magnitude)
+    → readMagnitude bs ≡ x → withMinus x ≡ Number.Is v → showNumber v ≡ minusSign ∷ bs
 unfolding withMinus showNumber
 minus-was bs v Magnitude.Bad e f = none-is v f
 minus-was bs v (Magnitude.Is zero) e f = none-is v f
@@ -94,7 +95,8 @@ minus-was bs v (Magnitude.Is (suc m)) e f =
     rw (← number-inj (negsuc m) v (rw (ne-eqb (suc m) 0 (omega arith)) at f))
     (ap (λ (l : List ℕ). minusSign ∷ l) (magnitude-was bs (suc m) e))
 
-plain-was : (bs : List ℕ) (v : ℤ) (x : Magnitude) → readMagnitude bs ≡ x → withoutMinus x ≡ Number.Is v → showNumber v ≡ bs
+plain-was : (bs : List ℕ) (v : ℤ) (x : Magnitude)
+    → readMagnitude bs ≡ x → withoutMinus x ≡ Number.Is v → showNumber v ≡ bs
 unfolding withoutMinus showNumber
 plain-was bs v Magnitude.Bad e f = none-is v f
 plain-was bs v (Magnitude.Is m) e f = rw (← number-inj (pos m) v f) (magnitude-was bs m e)

@@ -1,9 +1,11 @@
-// The numbers of a text, read and sized. "Numbers: an optional minus, 1 to 9 digits, no leading zero, no minus zero."
+// Digits, and what a number of a text may be. "Numbers: an optional minus, 1 to 9 digits, no leading zero, no minus
+// zero."
 ghost use mathlib.Core.Path.{_≡_};
-ghost use Prim.Native.Nat.{_<_, _≤_, _^_};
-ghost use lib.ListN.{length};
-ghost use lib.IntN.{natAbs, pos, negℤ};
-ghost use Rattle.digits.specs.Number.{digitsMax, digitsFrom, readMagnitude, withMinus, withoutMinus, readNumber};
+ghost use Prim.Native.Nat.{_-_, _<_, _^_};
+ghost use lib.IntN.{natAbs};
+ghost use Rattle.digits.specs.Number.{digitsMax};
+ghost use Rattle.digits.specs.Bytes.{digit0};
+ghost use Rattle.digits.specs.Digits.{isDigit, allDigits};
 
 pub const DIGITS: usize = 9;
 
@@ -19,93 +21,35 @@ pub enum Number {
     Bad,
 }
 
-// The number that the digits spell.
-pub fn read_digits(s: &[u8]) -> Magnitude
-    requires { ⌜ length (now s) ≤ digitsMax ⌝ }
-    ensures { λ r. ⌜ r ≡ digitsFrom 0 (now (s .entry)) ⌝ }
+// (In this form the compiler tests and takes a digit by one difference.)
+pub fn is_digit(b: u8) -> bool
+    ensures { λ r. ⌜ r ≡ isDigit b ⌝ }
 {
-    let mut v: u32 = 0;
-    let mut i = 0;
-    while i < s.len() {
-        let b = s[i];
-        if b < b'0' {
-            return Magnitude::Bad;
-        }
-        if b'9' < b {
-            return Magnitude::Bad;
-        }
-        v = v * 10 + (b as u32 - 48);
-        i += 1;
+    if b'0' <= b {
+        return b <= b'9';
     }
-    Magnitude::Is(v)
+    false
 }
 
-// The number that 1 to 9 digits with no leading zero spell.
-pub fn read_magnitude(s: &[u8]) -> Magnitude
-    ensures { λ r. ⌜ r ≡ readMagnitude (now (s .entry)) ⌝ }
+pub fn all_digits(s: &[u8]) -> bool
+    ensures { λ r. ⌜ r ≡ allDigits (now (s .entry)) ⌝ }
 {
-    let n = s.len();
-    if n == 0 {
-        return Magnitude::Bad;
-    }
-    if DIGITS < n {
-        return Magnitude::Bad;
-    }
-    if s[0] == b'0' {
-        if 1 < n {
-            return Magnitude::Bad;
-        }
-        return Magnitude::Is(0);
-    }
-    read_digits(s)
-}
-
-fn plus(m: u32) -> i64
-    ensures { λ r. ⌜ r ≡ pos m ⌝ }
-{
-    m as i64
-}
-
-fn minus(m: u32) -> i64
-    ensures { λ r. ⌜ r ≡ negℤ (pos m) ⌝ }
-{
-    0 - (m as i64)
-}
-
-fn with_minus(m: Magnitude) -> Number
-    ensures { λ r. ⌜ r ≡ withMinus m ⌝ }
-{
-    match m {
-        Magnitude::Bad => Number::Bad,
-        Magnitude::Is(v) => {
-            if v == 0 {
-                return Number::Bad;
-            }
-            Number::Is(minus(v))
+    for k in 0..s.len() {
+        if !is_digit(s[k]) {
+            return false;
         }
     }
+    true
 }
 
-fn without_minus(m: Magnitude) -> Number
-    ensures { λ r. ⌜ r ≡ withoutMinus m ⌝ }
+// What a digit stands for.
+pub fn digit(b: u8) -> u8
+    ensures { λ r. ⌜ r ≡ b - digit0 ⌝ }
 {
-    match m {
-        Magnitude::Bad => Number::Bad,
-        Magnitude::Is(v) => Number::Is(plus(v)),
+    if b < b'0' {
+        return 0;
     }
-}
-
-// The number that a whole field spells.
-pub fn read_number(s: &[u8]) -> Number
-    ensures { λ r. ⌜ r ≡ readNumber (now (s .entry)) ⌝ }
-{
-    if s.len() == 0 {
-        return Number::Bad;
-    }
-    if s[0] == b'-' {
-        return with_minus(read_magnitude(&s[1..]));
-    }
-    without_minus(read_magnitude(s))
+    b - b'0'
 }
 
 // The digits' part of a number that a text can hold.

@@ -2,10 +2,10 @@
 -- definitions that its contract cites. Only statements, each proved by one line from the files beside this one. `told`
 -- is `numberOf` and `lineOf` of a status, 0 and 0 where there is no fault.
 use mathlib.Core.Path.{_≡_, ap, _∙_}
-use mathlib.Core.List.{List, []}
+use mathlib.Core.List.{List, [], _++_}
 use mathlib.Core.Logic.{_↔_}
 use Prim.Native.Nat.{ℕ, _≤_, _<_}
-use lib.ListN.{length}
+use lib.ListN.{length, drop}
 use Rattle.sizes.specs.Sizes.{textMax}
 use Rattle.jobs.specs.Checks.{checkJob}
 use Rattle.jobs.specs.CheckResult.{checkResult}
@@ -21,6 +21,10 @@ use Rattle.result_form.specs.ResultShows.{showResult}
 use Rattle.desk.specs.Desk.{jobStatus, jobText, resultStatus, resultText, solveStatus, solveText}
 use Rattle.entries.specs.Numbers.{told, tell, orElse, shortBuffer, firstGiven, jobRows, resultRows}
 use Rattle.entries.proofs.Answered.{job-status, result-status, solve-status}
+use Rattle.slips.specs.Slips.{foundIn}
+use Rattle.sentences.specs.Says.{sentenceMax}
+use Rattle.sentences.specs.Sentences.{slipWords, Explains}
+use Rattle.entries.proofs.Explained as explained
 use Rattle.entries.proofs.Faults as faults
 use Rattle.entries.proofs.Texts as texts
 
@@ -106,3 +110,29 @@ module _ (t old new : List ℕ) (a : Written) where
       → (told (a .status) .number ≡ 7)
       ↔ ((told (readResult t .status) .number ≡ 0) × (length old < length (resultText t)))
   rewrite-result-short leaves = faults.answer-seven (rw (result-status t) at leaves) (texts.result-not-seven t)
+
+-- ---- sentences::explain_job, sentences::explain_result: no word where the reader finds no fault, and the buffer as it
+-- was; a sentence where it finds one, whole in any buffer of 256 bytes, and what lies behind it as it was
+module _ (t old new : List ℕ) (r : ℕ) where
+  pub explain-job-none : Explains (foundIn (readJob t .status)) old new r → told (readJob t .status) .number ≡ 0
+      → (r ≡ 0) × (new ≡ old)
+  explain-job-none = explained.no-fault (readJob t .status)
+
+  pub explain-job-some : Explains (foundIn (readJob t .status)) old new r → 0 < told (readJob t .status) .number → 0 < r
+  explain-job-some = explained.a-fault (readJob t .status)
+
+  pub explain-job-whole : (e : Explains (foundIn (readJob t .status)) old new r) → sentenceMax ≤ length old
+      → new ≡ slipWords (e .slip) ++ drop r old
+  explain-job-whole = explained.whole
+
+  pub explain-result-none : Explains (foundIn (readResult t .status)) old new r
+      → told (readResult t .status) .number ≡ 0 → (r ≡ 0) × (new ≡ old)
+  explain-result-none = explained.no-fault (readResult t .status)
+
+  pub explain-result-some : Explains (foundIn (readResult t .status)) old new r
+      → 0 < told (readResult t .status) .number → 0 < r
+  explain-result-some = explained.a-fault (readResult t .status)
+
+  pub explain-result-whole : (e : Explains (foundIn (readResult t .status)) old new r) → sentenceMax ≤ length old
+      → new ≡ slipWords (e .slip) ++ drop r old
+  explain-result-whole = explained.whole

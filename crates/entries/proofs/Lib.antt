@@ -3,6 +3,7 @@ pub mod Lines
 pub mod Texts
 pub mod Faults
 pub mod Answered
+pub mod Explained
 pub mod Demand1
 pub mod RunSettled
 pub mod ReadSettled

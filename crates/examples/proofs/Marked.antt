@@ -9,8 +9,10 @@ use Rattle.matrices.specs.Products.{dotI, dOf, unitZ, entryB, bOf, eOf}
 use Rattle.jobs.specs.Ranges.{isWithin, allWithin, allOrdered}
 use Rattle.jobs.specs.Terms.{alike, falls, inOrder, goodTerm, goodPlace, goodTerms, goodCoefs, degree}
 use Rattle.faults.specs.Checks.{badUnless, firstOf, onLine, andThen, linesOf}
-use Rattle.jobs.specs.Checks.{goodUnknowns, goodMatrix, numberCheck, unknownsCheck, lowCheck, highCheck, inverseCheck, stepsCheck}
-use Rattle.jobs.specs.Checks.{equationCheck, rowCheck, sidedCheck, systemCheck, lineCheck, jobLineStatus, systemLines, headLines, bodyLines, checkJob}
+use Rattle.jobs.specs.Checks.{goodUnknowns, goodMatrix, numberCheck, unknownsCheck}
+use Rattle.jobs.specs.Checks.{lowCheck, highCheck, inverseCheck, stepsCheck}
+use Rattle.jobs.specs.Checks.{equationCheck, rowCheck, sidedCheck, systemCheck, lineCheck}
+use Rattle.jobs.specs.Checks.{jobLineStatus, systemLines, headLines, bodyLines, checkJob}
 use Rattle.systems.specs.Terms.{factorI, termOver, equationOver, lowered, termSlope, slopeOver}
 use Rattle.systems.specs.Fractions.{power, termNum, equationNum}
 use Rattle.systems.specs.Kinds.{unitE, vectorE, linearEquation, eigenEquation, equationOf}
@@ -21,6 +23,12 @@ use Rattle.run.specs.Job.{startOf, outcomeOf, resultOf, runJob}
 use Rattle.examples.specs.Table.{table, Holds}
 
 pub marked-examples : Holds table
-unfolding floorBy ceilBy minℤ maxℤ sumTo tab carry allB addI negI sumI scaleI wideI outI mulI midI meetsI insideI cutI sameI dotI dOf unitZ entryB bOf eOf isWithin allWithin allOrdered alike falls inOrder goodTerm goodPlace goodTerms goodCoefs andThen badUnless firstOf onLine linesOf goodUnknowns goodMatrix numberCheck unknownsCheck lowCheck highCheck inverseCheck stepsCheck equationCheck rowCheck sidedCheck systemCheck lineCheck jobLineStatus systemLines headLines bodyLines checkJob factorI termOver equationOver lowered termSlope slopeOver power termNum degree equationNum unitE vectorE linearEquation eigenEquation equationOf imageOf allMeet allInside cutSame cutBox decideOf imageBox stepOf runOf startOf outcomeOf resultOf runJob
+unfolding floorBy ceilBy minℤ maxℤ sumTo tab carry allB addI negI sumI scaleI wideI outI mulI midI meetsI insideI cutI
+    sameI dotI dOf unitZ entryB bOf eOf isWithin allWithin allOrdered alike falls inOrder goodTerm goodPlace goodTerms
+    goodCoefs andThen badUnless firstOf onLine linesOf goodUnknowns goodMatrix numberCheck unknownsCheck lowCheck
+    highCheck inverseCheck stepsCheck equationCheck rowCheck sidedCheck systemCheck lineCheck jobLineStatus systemLines
+    headLines bodyLines checkJob factorI termOver equationOver lowered termSlope slopeOver power termNum degree
+    equationNum unitE vectorE linearEquation eigenEquation equationOf imageOf allMeet allInside cutSame cutBox decideOf
+    imageBox stepOf runOf startOf outcomeOf resultOf runJob
 marked-examples =
     (refl, (refl, (refl, (refl, (refl, (refl, (refl, (refl, (refl, (refl, (refl, (refl, (refl, (refl, tt))))))))))))))

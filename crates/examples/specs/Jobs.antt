@@ -20,7 +20,8 @@ abbrev pub numbers : List ℤ → List ℤ
 numbers xs = tab nMax (length xs) (pos 0) (numberAt xs)
 
 abbrev pub matrix : List (List ℤ) → List Row
-matrix rows = tab nMax (length rows) (record { at = replicate nMax (pos 0) }) (λ i. record { at = numbers (getD rows i []) })
+matrix rows =
+    tab nMax (length rows) (record { at = replicate nMax (pos 0) }) (λ i. record { at = numbers (getD rows i []) })
 
 -- a term `coefficient:exponents`, an `eq` line and all of them
 abbrev pub term : ℤ → List ℕ → Term
@@ -46,14 +47,16 @@ abbrev pub polyJob : ℕ → List ℤ → List ℤ → List (List ℤ) → ℕ �
 polyJob number lo hi inv steps eqs = head number Kind.Poly lo hi inv steps (equations eqs) (matrix []) (numbers [])
 
 abbrev pub linearJob : ℕ → List ℤ → List ℤ → List (List ℤ) → ℕ → List (List ℤ) → List ℤ → Job
-linearJob number lo hi inv steps rows right = head number Kind.Linear lo hi inv steps (equations []) (matrix rows) (numbers right)
+linearJob number lo hi inv steps rows right =
+    head number Kind.Linear lo hi inv steps (equations []) (matrix rows) (numbers right)
 
 abbrev pub eigenJob : ℕ → List ℤ → List ℤ → List (List ℤ) → ℕ → List (List ℤ) → Job
 eigenJob number lo hi inv steps rows = head number Kind.Eigen lo hi inv steps (equations []) (matrix rows) (numbers [])
 
 -- the document's job 41, with an inverse
 abbrev pub job41 : ℤ → Job
-job41 c = polyJob 41 (pos 65536 ∷ []) (pos 131072 ∷ []) ((c ∷ []) ∷ []) 8 ((term (pos 65536) (2 ∷ []) ∷ term (minus 131072) (0 ∷ []) ∷ []) ∷ [])
+job41 c = polyJob 41 (pos 65536 ∷ []) (pos 131072 ∷ []) ((c ∷ []) ∷ []) 8
+    ((term (pos 65536) (2 ∷ []) ∷ term (minus 131072) (0 ∷ []) ∷ []) ∷ [])
 
 -- T7: "x = 0 (coefficient 65536, inverse 65536) on [0,2]", with an allowance
 abbrev pub job7 : ℕ → Job
@@ -61,7 +64,8 @@ job7 steps = polyJob 7 (pos 0 ∷ []) (pos 2 ∷ []) ((pos 65536 ∷ []) ∷ [])
 
 -- T9: "x - 1 = 0 on [0,0], inverse 65536"
 abbrev pub job9 : Job
-job9 = polyJob 9 (pos 0 ∷ []) (pos 0 ∷ []) ((pos 65536 ∷ []) ∷ []) 8 ((term (pos 65536) (1 ∷ []) ∷ term (minus 65536) (0 ∷ []) ∷ []) ∷ [])
+job9 = polyJob 9 (pos 0 ∷ []) (pos 0 ∷ []) ((pos 65536 ∷ []) ∷ []) 8
+    ((term (pos 65536) (1 ∷ []) ∷ term (minus 65536) (0 ∷ []) ∷ []) ∷ [])
 
 -- T11: "linear, rows 131072,0,65536 and 0,262144,65536, inverse 32768,0,0,16384, box [-65536,65536] twice"
 abbrev pub job11 : Job
@@ -72,4 +76,5 @@ job11 =
 
 -- T12: "eigen, rows 65536,65536 and 0,131072"; its box and inverse play no part
 abbrev pub job12 : Job
-job12 = eigenJob 12 (pos 0 ∷ pos 0 ∷ []) (pos 0 ∷ pos 0 ∷ []) [] 0 ((pos 65536 ∷ pos 65536 ∷ []) ∷ (pos 0 ∷ pos 131072 ∷ []) ∷ [])
+job12 = eigenJob 12 (pos 0 ∷ pos 0 ∷ []) (pos 0 ∷ pos 0 ∷ []) [] 0
+    ((pos 65536 ∷ pos 65536 ∷ []) ∷ (pos 0 ∷ pos 131072 ∷ []) ∷ [])

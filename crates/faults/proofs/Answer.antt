@@ -21,8 +21,10 @@ module _ (t old : List ℕ) where
   pub has-room : {new : List ℕ} → length t ≤ length old → new ≡ t ++ drop (length t) old
       → Leaves Status.Done t old new (record { status = Status.Done; len = length t })
   unfolding answerOf leftIn
-  has-room h w = record { answer = rw (le-ltb (length old) (length t) h); left = rw (le-ltb (length old) (length t) h) w }
+  has-room h w =
+      record { answer = rw (le-ltb (length old) (length t) h); left = rw (le-ltb (length old) (length t) h) w }
 
 -- any two answers and buffers that are allowed are equal
-pub settled : {st : Status} {t old new new' : List ℕ} {a a' : Written} → Leaves st t old new a → Leaves st t old new' a' → (a ≡ a') × (new ≡ new')
+pub settled : {st : Status} {t old new new' : List ℕ} {a a' : Written}
+    → Leaves st t old new a → Leaves st t old new' a' → (a ≡ a') × (new ≡ new')
 settled p q = (p .answer ∙ sym (q .answer), p .left ∙ sym (q .left))

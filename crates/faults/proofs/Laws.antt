@@ -130,7 +130,8 @@ module _ (f : ℕ → Status) where
   unfolding linesOf
   lines-each zero i l e = absurd (not-suc-le-zero l)
   lines-each (suc n) i l e =
-      ⊎-elim (λ q. ap f q ∙ done-next (linesOf n f) (f n) e) (λ lt. lines-each n i lt (done-first (linesOf n f) (f n) e))
+      ⊎-elim (λ q. ap f q ∙ done-next (linesOf n f) (f n) e)
+      (λ lt. lines-each n i lt (done-first (linesOf n f) (f n) e))
       (eq-or-lt-of-le (le-of-suc-le-suc l))
 
   pub each-lines : (n : ℕ) → ((i : ℕ) → i < n → f i ≡ Status.Done) → linesOf n f ≡ Status.Done

@@ -1,5 +1,5 @@
--- Checks one after another. Document 01: "lines are taken in order and the first bad line decides; in one line 2 comes before the others, then 3,
--- then 4, then 5 or 6".
+-- Checks one after another. Document 01: "lines are taken in order and the first bad line decides; in one line 2 comes
+-- before the others, then 3, then 4, then 5 or 6".
 use Prim.Native.Nat.{ℕ, zero, suc}
 use mathlib.Core.Bool.{Bool, true, false}
 use Rattle.faults.specs.declared.Fault.{Fault}

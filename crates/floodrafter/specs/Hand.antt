@@ -9,7 +9,8 @@ use Rattle.floodrafter.specs.declared.batch.Hand.{Hand}
 abbrev pub blockMax : ℕ
 blockMax = 65536
 
--- of a request that is not whole, at most a line and one byte more of text than may be is at hand, and a block fits behind
+-- of a request that is not whole, at most a line and one byte more of text than may be is at hand, and a block fits
+-- behind
 abbrev pub inMax : ℕ
 inMax = headerMax + textMax + 1 + blockMax
 

@@ -1,5 +1,5 @@
-// Many requests in one run, read and written by large blocks. Answers wait until the next read, which could wait itself,
-// or until they fill a block.
+// Many requests in one run, read and written by large blocks. Answers wait until the next read, which could wait
+// itself, or until they fill a block.
 ghost use Prim.Native.Nat.{_+_, _≤_};
 ghost use mathlib.Core.Path.{_≡_};
 ghost use lib.ListN.{length};
@@ -27,7 +27,8 @@ const IN: usize = HEADER + TEXT + 1 + BLOCK;
 
 const OUT: usize = BLOCK + ROOM + DIGITS + 1;
 
-// The bytes at..end of the input's block are not yet answered, and the first `used` bytes of the output's not yet written.
+// The bytes at..end of the input's block are not yet answered, and the first `used` bytes of the output's not yet
+// written.
 struct Hand {
     going: bool,
     outcome: Outcome,

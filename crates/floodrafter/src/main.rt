@@ -4,9 +4,6 @@ mod commands;
 mod help;
 mod outcomes;
 mod people;
-mod places;
-mod sentences;
-mod slips;
 mod streams;
 
 use commands::Command;

@@ -1,6 +1,7 @@
 // For people: one text's answer, and a plain sentence beside a fault.
+ghost use Prim.Native.Nat.{_≤_};
+ghost use Rattle.sentences.specs.Says.{sentenceMax};
 use crate::outcomes::Outcome;
-use crate::sentences::expected;
 use crate::streams::fill;
 use crate::streams::put;
 use crate::streams::say;
@@ -11,6 +12,9 @@ use framing::Op;
 use framing::ROOM;
 use framing::reply;
 use framing::tell;
+use sentences::SENTENCE;
+use sentences::explain_job;
+use sentences::explain_result;
 use sizes::TEXT;
 
 // What a text is answered by.
@@ -34,11 +38,24 @@ fn op_of(how: How) -> Op {
     }
 }
 
+// The sentence beside the fault of a text that the operation reads.
+fn explain(op: Op, text: &[u8], out: &mut [u8]) -> usize
+    ensures { λ r. ⌜ r ≤ sentenceMax ⌝ }
+{
+    match op {
+        Op::Solve => explain_job(text, out),
+        Op::Job => explain_job(text, out),
+        Op::Result => explain_result(text, out),
+    }
+}
+
 // On standard error, as `job.txt:8: fault 6: ..`.
-fn explain(op: Op, status: Status, name: &[u8], text: &[u8]) -> Outcome {
+fn tell_fault(op: Op, status: Status, name: &[u8], text: &[u8]) -> Outcome {
     match status {
         Status::Done => Outcome::Answered,
         Status::Refused(f, line) => {
+            let mut sentence = [0u8; SENTENCE];
+            let n = explain(op, text, &mut sentence);
             say(name);
             if line > 0 {
                 say(b":");
@@ -47,7 +64,7 @@ fn explain(op: Op, status: Status, name: &[u8], text: &[u8]) -> Outcome {
             say(b": fault ");
             say_number(faults::fault_number(f));
             say(b": ");
-            expected(op, f, line, text);
+            say(&sentence[0..n]);
             say(b"\n");
             Outcome::Fault
         }
@@ -67,7 +84,7 @@ pub fn one(how: How, fd: i32, name: &[u8]) -> Outcome {
     let status = a.status;
     let k = tell(a, &mut out);
     if put(&out[0..k]) {
-        return explain(op_of(how), status, name, &buf[0..n]);
+        return tell_fault(op_of(how), status, name, &buf[0..n]);
     }
     Outcome::Unwritten
 }

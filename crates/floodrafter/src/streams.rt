@@ -18,8 +18,8 @@ fn passing(error: i32) -> bool {
     error == EINTR || error == EAGAIN
 }
 
-// The standard streams by their names. A stream that does not wait is shared with who set it so; opened anew, a pipe and a
-// terminal wait.
+// The standard streams by their names. A stream that does not wait is shared with who set it so; opened anew, a pipe
+// and a terminal wait.
 fn open_anew(fd: i32) -> i32 {
     if fd == STDIN_FILENO {
         return os::open_read(b"/proc/self/fd/0");

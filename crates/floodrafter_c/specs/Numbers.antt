@@ -1,4 +1,5 @@
--- The answers as C has them: "A fault returns its number and a line", 0 and 0 where there is none, and how many bytes were written.
+-- The answers as C has them: "A fault returns its number and a line", 0 and 0 where there is none, and how many bytes
+-- were written.
 use Prim.Native.Nat.{ℕ}
 use mathlib.Core.Path.{_≡_}
 use mathlib.Core.List.{List}
@@ -15,7 +16,8 @@ numbersOf w = record { fault = numberOf (w .status); line = lineOf (w .status); 
 abbrev pub checked : Status → Answer
 checked st = numbersOf (record { status = st; len = 0 })
 
--- values with the status st, whose text is t, are written over the bytes old: what C is answered, and what its buffer holds then
+-- values with the status st, whose text is t, are written over the bytes old: what C is answered, and what its buffer
+-- holds then
 pub record Gives (st : Status) (t old new : List ℕ) (a : Answer) : Type 0 where
   pub answer : a ≡ numbersOf (answerOf st old t)
   pub left : new ≡ leftIn st old t

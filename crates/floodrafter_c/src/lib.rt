@@ -4,6 +4,8 @@ ghost use Rattle.job_form.specs.JobForm.{readJob};
 ghost use Rattle.result_form.specs.ResultForm.{readResult};
 ghost use Rattle.desk.specs.Desk.{jobStatus, jobText, resultStatus, resultText, solveStatus, solveText};
 ghost use Rattle.floodrafter_c.specs.Numbers.{numbersOf, checked, Gives};
+ghost use Rattle.slips.specs.Slips.{foundIn};
+ghost use Rattle.sentences.specs.Sentences.{Explains};
 use faults::Status;
 use faults::Written;
 
@@ -35,7 +37,8 @@ fn numbers(w: Written) -> Answer
 
 #[no_mangle]
 pub extern "C" fn floodrafter_solve(text: &[u8], out: &mut [u8]) -> Answer
-    ensures { λ a. ⌜ Gives (solveStatus (now (text .entry))) (solveText (now (text .entry))) (now (out .entry)) (now (out .exit)) a ⌝ }
+    ensures { λ a. ⌜ Gives (solveStatus (now (text .entry))) (solveText (now (text .entry)))
+        (now (out .entry)) (now (out .exit)) a ⌝ }
 {
     let w = desk::solve(text, out);
     numbers(w)
@@ -43,7 +46,8 @@ pub extern "C" fn floodrafter_solve(text: &[u8], out: &mut [u8]) -> Answer
 
 #[no_mangle]
 pub extern "C" fn floodrafter_rewrite_job(text: &[u8], out: &mut [u8]) -> Answer
-    ensures { λ a. ⌜ Gives (jobStatus (now (text .entry))) (jobText (now (text .entry))) (now (out .entry)) (now (out .exit)) a ⌝ }
+    ensures { λ a. ⌜ Gives (jobStatus (now (text .entry))) (jobText (now (text .entry)))
+        (now (out .entry)) (now (out .exit)) a ⌝ }
 {
     let w = desk::rewrite_job(text, out);
     numbers(w)
@@ -51,7 +55,8 @@ pub extern "C" fn floodrafter_rewrite_job(text: &[u8], out: &mut [u8]) -> Answer
 
 #[no_mangle]
 pub extern "C" fn floodrafter_rewrite_result(text: &[u8], out: &mut [u8]) -> Answer
-    ensures { λ a. ⌜ Gives (resultStatus (now (text .entry))) (resultText (now (text .entry))) (now (out .entry)) (now (out .exit)) a ⌝ }
+    ensures { λ a. ⌜ Gives (resultStatus (now (text .entry))) (resultText (now (text .entry)))
+        (now (out .entry)) (now (out .exit)) a ⌝ }
 {
     let w = desk::rewrite_result(text, out);
     numbers(w)
@@ -61,8 +66,7 @@ pub extern "C" fn floodrafter_rewrite_result(text: &[u8], out: &mut [u8]) -> Ans
 pub extern "C" fn floodrafter_check_job(text: &[u8]) -> Answer
     ensures { λ a. ⌜ a ≡ checked (readJob (now (text .entry)) .status) ⌝ }
 {
-    let read = job_read::read_job(text);
-    let status = read.status;
+    let status = job_read::read_status(text);
     numbers(Written { status, len: 0 })
 }
 
@@ -73,4 +77,19 @@ pub extern "C" fn floodrafter_check_result(text: &[u8]) -> Answer
     let read = result_read::read_result(text);
     let status = read.status;
     numbers(Written { status, len: 0 })
+}
+
+#[no_mangle]
+pub extern "C" fn floodrafter_explain_job(text: &[u8], out: &mut [u8]) -> usize
+    ensures { λ r. ⌜ Explains (foundIn (readJob (now (text .entry)) .status)) (now (out .entry)) (now (out .exit)) r ⌝ }
+{
+    sentences::explain_job(text, out)
+}
+
+#[no_mangle]
+pub extern "C" fn floodrafter_explain_result(text: &[u8], out: &mut [u8]) -> usize
+    ensures { λ r. ⌜ Explains (foundIn (readResult (now (text .entry)) .status))
+        (now (out .entry)) (now (out .exit)) r ⌝ }
+{
+    sentences::explain_result(text, out)
 }

@@ -7,7 +7,7 @@ use lib.ListN.{length, getD, take, drop}
 use lib.Dec.{eqb}
 use Rattle.digits.specs.Bytes.{digit0}
 use Rattle.text.specs.Keys.{sameBytes}
-use Rattle.termtext.specs.Terms.{allDigits}
+use Rattle.digits.specs.Digits.{allDigits}
 use Rattle.framing.specs.declared.requests.Op.{Op}
 use Rattle.framing.specs.declared.requests.Named.{Named}
 use Rattle.framing.specs.declared.requests.Length.{Length}

@@ -18,7 +18,8 @@ use writing::put_count_line;
 pub const ROOM: usize = TEXT;
 
 pub fn reply(op: Op, text: &[u8], out: &mut [u8]) -> Written
-    ensures { λ a. ⌜ Leaves (statusOf op (now (text .entry))) (textOf op (now (text .entry))) (now (out .entry)) (now (out .exit)) a ⌝ }
+    ensures { λ a. ⌜ Leaves (statusOf op (now (text .entry))) (textOf op (now (text .entry))) (now (out .entry))
+        (now (out .exit)) a ⌝ }
 {
     match op {
         Op::Solve => desk::solve(text, out),

@@ -4,8 +4,8 @@ ghost use Prim.Native.Nat.{_+_, _*_};
 ghost use Rattle.framing.specs.declared.requests.Named.{Named};
 ghost use Rattle.framing.specs.Requests.{operationOf, capped, valueFrom, isSpelled, lengthOf};
 ghost use Rattle.framing.specs.Requests.{asked, AfterSpace, requestOf};
-use termtext::all_digits;
-use termtext::digit;
+use digits::all_digits;
+use digits::digit;
 use text::same_bytes;
 
 pub enum Op {

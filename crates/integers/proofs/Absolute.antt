@@ -48,7 +48,8 @@ abs-ge-neg x = omega (zorder, abs-pn x, neg-P x, neg-N x)
 
 pub abs-add : (x y : ℤ) → absℤ (x +ℤ y) ≤ℤ (absℤ x +ℤ absℤ y)
 abs-add x y =
-    abs-le (x +ℤ y) (absℤ x +ℤ absℤ y) (simp zlin (omega (zorder, abs-ge x, abs-ge y))) (simp zlin (omega (zorder, simp zlin at (abs-ge-neg x), simp zlin at (abs-ge-neg y))))
+    abs-le (x +ℤ y) (absℤ x +ℤ absℤ y) (simp zlin (omega (zorder, abs-ge x, abs-ge y)))
+    (simp zlin (omega (zorder, simp zlin at (abs-ge-neg x), simp zlin at (abs-ge-neg y))))
 
 pub abs-mul : (x y : ℤ) → absℤ (x *ℤ y) ≡ absℤ x *ℤ absℤ y
 unfolding absℤ
@@ -59,5 +60,6 @@ unfolding sumTo
 abs-sum zero f = unfold absℤ in (omega zorder)
 abs-sum (suc n) f = more (abs-sum n f)
   where
-    more : absℤ (sumTo n f) ≤ℤ sumTo n (λ k. absℤ (f k)) → absℤ (sumTo n f +ℤ f n) ≤ℤ (sumTo n (λ k. absℤ (f k)) +ℤ absℤ (f n))
+    more : absℤ (sumTo n f) ≤ℤ sumTo n (λ k. absℤ (f k))
+        → absℤ (sumTo n f +ℤ f n) ≤ℤ (sumTo n (λ k. absℤ (f k)) +ℤ absℤ (f n))
     more h = simp zlin (omega (zorder, simp zlin at (abs-add (sumTo n f) (f n))))

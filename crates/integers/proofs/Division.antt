@@ -23,8 +23,17 @@ module _ (m : ℕ) (h : 0 < m) where
       no : (r : ℕ) → pos r <ℤ pos 0 → ⊥
       no r k = omega zorder
   rem-neg (negsuc a) e = floor-unique m h (negℤ (pos (suc a / m)) -ℤ pos 1) (negsuc a)
-      (simp zlin (omega (zorder, div-add-mod (suc a) m, mod-lt (suc a) h, neg-P (pos (suc a / m)), neg-N (pos (suc a / m)))))
-      (simp zlin (omega (zorder, div-add-mod (suc a) m, k, neg-P (pos (suc a / m)), neg-N (pos (suc a / m)), neg-P (pos (suc a % m)), neg-N (pos (suc a % m)))))
+      (simp zlin
+      (omega (zorder, div-add-mod (suc a) m, mod-lt (suc a) h, neg-P (pos (suc a / m)), neg-N (pos (suc a / m)))))
+      (simp zlin (omega (
+        zorder,
+        div-add-mod (suc a) m,
+        k,
+        neg-P (pos (suc a / m)),
+        neg-N (pos (suc a / m)),
+        neg-P (pos (suc a % m)),
+        neg-N (pos (suc a % m)),
+      )))
     where
       k : negℤ (pos (suc a % m)) <ℤ pos 0
       k = ltZ-true (negℤ (pos (suc a % m))) (pos 0) e
@@ -33,8 +42,17 @@ module _ (m : ℕ) (h : 0 < m) where
   unfolding floorBy
   rem-nonneg (pos a) e = refl
   rem-nonneg (negsuc a) e = floor-unique m h (negℤ (pos (suc a / m))) (negsuc a)
-      (simp zlin (omega (zorder, div-add-mod (suc a) m, k, neg-P (pos (suc a / m)), neg-N (pos (suc a / m)), neg-P (pos (suc a % m)), neg-N (pos (suc a % m)))))
-      (simp zlin (omega (zorder, div-add-mod (suc a) m, mod-lt (suc a) h, neg-P (pos (suc a / m)), neg-N (pos (suc a / m)))))
+      (simp zlin (omega (
+        zorder,
+        div-add-mod (suc a) m,
+        k,
+        neg-P (pos (suc a / m)),
+        neg-N (pos (suc a / m)),
+        neg-P (pos (suc a % m)),
+        neg-N (pos (suc a % m)),
+      )))
+      (simp zlin
+      (omega (zorder, div-add-mod (suc a) m, mod-lt (suc a) h, neg-P (pos (suc a / m)), neg-N (pos (suc a / m)))))
     where
       k : pos 0 ≤ℤ negℤ (pos (suc a % m))
       k = ltZ-false (negℤ (pos (suc a % m))) (pos 0) e

@@ -100,14 +100,17 @@ max4-4 a b c d = omega (zorder, max-r (maxℤ a b) (maxℤ c d), max-r c d)
 
 pub min4-within : {a b c d : ℤ} {B : ℕ} → Within a B → Within b B → Within c B → Within d B → Within (min4 a b c d) B
 min4-within {a} {b} {c} {d} {B} p q r s =
-    min-both (λ z. Within z B) (minℤ a b) (minℤ c d) (min-both (λ z. Within z B) a b p q) (min-both (λ z. Within z B) c d r s)
+    min-both (λ z. Within z B) (minℤ a b) (minℤ c d) (min-both (λ z. Within z B) a b p q)
+    (min-both (λ z. Within z B) c d r s)
 
 pub max4-within : {a b c d : ℤ} {B : ℕ} → Within a B → Within b B → Within c B → Within d B → Within (max4 a b c d) B
 max4-within {a} {b} {c} {d} {B} p q r s =
-    max-both (λ z. Within z B) (maxℤ a b) (maxℤ c d) (max-both (λ z. Within z B) a b p q) (max-both (λ z. Within z B) c d r s)
+    max-both (λ z. Within z B) (maxℤ a b) (maxℤ c d) (max-both (λ z. Within z B) a b p q)
+    (max-both (λ z. Within z B) c d r s)
 
 pub min4-greatest : (M p q r s : ℤ) → M ≤ℤ p → M ≤ℤ q → M ≤ℤ r → M ≤ℤ s → M ≤ℤ min4 p q r s
-min4-greatest M p q r s h i j k = min-both (λ z. M ≤ℤ z) (minℤ p q) (minℤ r s) (min-both (λ z. M ≤ℤ z) p q h i) (min-both (λ z. M ≤ℤ z) r s j k)
+min4-greatest M p q r s h i j k =
+    min-both (λ z. M ≤ℤ z) (minℤ p q) (minℤ r s) (min-both (λ z. M ≤ℤ z) p q h i) (min-both (λ z. M ≤ℤ z) r s j k)
 
 pub max4-least : {M p q r s : ℤ} → p ≤ℤ M → q ≤ℤ M → r ≤ℤ M → s ≤ℤ M → max4 p q r s ≤ℤ M
 max4-least {M} {p} {q} {r} {s} h i j k =

@@ -1,5 +1,6 @@
--- Linear arithmetic of integers by omega. `simp zlin` takes an order, an equation or a range of integers to one of naturals:
--- it moves all to the left, flattens the sum, and hands each summand x over as P x on one side and N x on the other.
+-- Linear arithmetic of integers by omega. `simp zlin` takes an order, an equation or a range of integers to one of
+-- naturals: it moves all to the left, flattens the sum, and hands each summand x over as P x on one side and N x on the
+-- other.
 use mathlib.Core.Path.{_≡_, refl, sym, ap, _∙_}
 use mathlib.Core.Logic.{_↔_}
 use Prim.Native.Nat.{ℕ, suc, _+_, _*_, _≤_, _<_, _^_}
@@ -31,18 +32,22 @@ lq-add1p a b u v = ((λ h. omega (arith, add-pn a b)), λ h. omega (arith, add-p
 pub lq-add1n : (a b : ℤ) (u v : ℕ) → (N (a +ℤ b) + u ≤ P (a +ℤ b) + v) ↔ (N a + (N b + u) ≤ P a + (P b + v))
 lq-add1n a b u v = ((λ h. omega (arith, add-pn a b)), λ h. omega (arith, add-pn a b))
 
-pub lq-add2p : (a b : ℤ) (x y u v : ℕ) → (x + (P (a +ℤ b) + u) ≤ y + (N (a +ℤ b) + v)) ↔ (P a + (P b + (x + u)) ≤ N a + (N b + (y + v)))
+pub lq-add2p : (a b : ℤ) (x y u v : ℕ)
+    → (x + (P (a +ℤ b) + u) ≤ y + (N (a +ℤ b) + v)) ↔ (P a + (P b + (x + u)) ≤ N a + (N b + (y + v)))
 lq-add2p a b x y u v = ((λ h. omega (arith, add-pn a b)), λ h. omega (arith, add-pn a b))
 
-pub lq-add2n : (a b : ℤ) (x y u v : ℕ) → (x + (N (a +ℤ b) + u) ≤ y + (P (a +ℤ b) + v)) ↔ (N a + (N b + (x + u)) ≤ P a + (P b + (y + v)))
+pub lq-add2n : (a b : ℤ) (x y u v : ℕ)
+    → (x + (N (a +ℤ b) + u) ≤ y + (P (a +ℤ b) + v)) ↔ (N a + (N b + (x + u)) ≤ P a + (P b + (y + v)))
 lq-add2n a b x y u v = ((λ h. omega (arith, add-pn a b)), λ h. omega (arith, add-pn a b))
 
 pub lq-add3p : (a b : ℤ) (w x y z u v : ℕ)
-    → (w + (x + (P (a +ℤ b) + u)) ≤ y + (z + (N (a +ℤ b) + v))) ↔ (P a + (P b + (w + (x + u))) ≤ N a + (N b + (y + (z + v))))
+    → (w + (x + (P (a +ℤ b) + u)) ≤ y + (z + (N (a +ℤ b) + v)))
+    ↔ (P a + (P b + (w + (x + u))) ≤ N a + (N b + (y + (z + v))))
 lq-add3p a b w x y z u v = ((λ h. omega (arith, add-pn a b)), λ h. omega (arith, add-pn a b))
 
 pub lq-add3n : (a b : ℤ) (w x y z u v : ℕ)
-    → (w + (x + (N (a +ℤ b) + u)) ≤ y + (z + (P (a +ℤ b) + v))) ↔ (N a + (N b + (w + (x + u))) ≤ P a + (P b + (y + (z + v))))
+    → (w + (x + (N (a +ℤ b) + u)) ≤ y + (z + (P (a +ℤ b) + v)))
+    ↔ (N a + (N b + (w + (x + u))) ≤ P a + (P b + (y + (z + v))))
 lq-add3n a b w x y z u v = ((λ h. omega (arith, add-pn a b)), λ h. omega (arith, add-pn a b))
 
 pub eq-add1p : (a b : ℤ) (u v : ℕ) → (P (a +ℤ b) + u ≡ N (a +ℤ b) + v) ↔ (P a + (P b + u) ≡ N a + (N b + v))
@@ -51,18 +56,22 @@ eq-add1p a b u v = ((λ h. omega (arith, add-pn a b)), λ h. omega (arith, add-p
 pub eq-add1n : (a b : ℤ) (u v : ℕ) → (N (a +ℤ b) + u ≡ P (a +ℤ b) + v) ↔ (N a + (N b + u) ≡ P a + (P b + v))
 eq-add1n a b u v = ((λ h. omega (arith, add-pn a b)), λ h. omega (arith, add-pn a b))
 
-pub eq-add2p : (a b : ℤ) (x y u v : ℕ) → (x + (P (a +ℤ b) + u) ≡ y + (N (a +ℤ b) + v)) ↔ (P a + (P b + (x + u)) ≡ N a + (N b + (y + v)))
+pub eq-add2p : (a b : ℤ) (x y u v : ℕ)
+    → (x + (P (a +ℤ b) + u) ≡ y + (N (a +ℤ b) + v)) ↔ (P a + (P b + (x + u)) ≡ N a + (N b + (y + v)))
 eq-add2p a b x y u v = ((λ h. omega (arith, add-pn a b)), λ h. omega (arith, add-pn a b))
 
-pub eq-add2n : (a b : ℤ) (x y u v : ℕ) → (x + (N (a +ℤ b) + u) ≡ y + (P (a +ℤ b) + v)) ↔ (N a + (N b + (x + u)) ≡ P a + (P b + (y + v)))
+pub eq-add2n : (a b : ℤ) (x y u v : ℕ)
+    → (x + (N (a +ℤ b) + u) ≡ y + (P (a +ℤ b) + v)) ↔ (N a + (N b + (x + u)) ≡ P a + (P b + (y + v)))
 eq-add2n a b x y u v = ((λ h. omega (arith, add-pn a b)), λ h. omega (arith, add-pn a b))
 
 pub eq-add3p : (a b : ℤ) (w x y z u v : ℕ)
-    → (w + (x + (P (a +ℤ b) + u)) ≡ y + (z + (N (a +ℤ b) + v))) ↔ (P a + (P b + (w + (x + u))) ≡ N a + (N b + (y + (z + v))))
+    → (w + (x + (P (a +ℤ b) + u)) ≡ y + (z + (N (a +ℤ b) + v)))
+    ↔ (P a + (P b + (w + (x + u))) ≡ N a + (N b + (y + (z + v))))
 eq-add3p a b w x y z u v = ((λ h. omega (arith, add-pn a b)), λ h. omega (arith, add-pn a b))
 
 pub eq-add3n : (a b : ℤ) (w x y z u v : ℕ)
-    → (w + (x + (N (a +ℤ b) + u)) ≡ y + (z + (P (a +ℤ b) + v))) ↔ (N a + (N b + (w + (x + u))) ≡ P a + (P b + (y + (z + v))))
+    → (w + (x + (N (a +ℤ b) + u)) ≡ y + (z + (P (a +ℤ b) + v)))
+    ↔ (N a + (N b + (w + (x + u))) ≡ P a + (P b + (y + (z + v))))
 eq-add3n a b w x y z u v = ((λ h. omega (arith, add-pn a b)), λ h. omega (arith, add-pn a b))
 
 -- a literal times x
@@ -107,9 +116,13 @@ pn-mag : (z : ℤ) (H : ℕ) → P z + 1 ≤ N z + H → N z ≤ P z + H → mag
 pn-mag (pos n) H h k = omega arith
 pn-mag (negsuc n) H h k = omega arith
 
-pub sfits-lq : (w : Width) (z : ℤ) → SFits w z ↔ ((P z + 1 ≤ N z + 2 ^ hbits w) × (P (negℤ z) + 0 ≤ N (negℤ z) + 2 ^ hbits w))
+pub sfits-lq : (w : Width) (z : ℤ)
+    → SFits w z ↔ ((P z + 1 ≤ N z + 2 ^ hbits w) × (P (negℤ z) + 0 ≤ N (negℤ z) + 2 ^ hbits w))
 sfits-lq w z = (
-  (λ h. (omega (arith, mag-pn z (2 ^ hbits w) (h .sfits)), omega (arith, mag-pn z (2 ^ hbits w) (h .sfits), neg-P z, neg-N z))),
+  (λ h. (
+    omega (arith, mag-pn z (2 ^ hbits w) (h .sfits)),
+    omega (arith, mag-pn z (2 ^ hbits w) (h .sfits), neg-P z, neg-N z),
+  )),
   λ h. record { sfits = pn-mag z (2 ^ hbits w) (h .0) (omega (arith, neg-P z, neg-N z)) },
 )
 
@@ -127,5 +140,37 @@ abs-lq z B = (
   λ h. pn-abs z B (omega arith) (omega (arith, neg-P z, neg-N z)),
 )
 
-pub ruleset zlin =
-    (le-lq, lt-lq, eq-lq, sfits-lq, abs-lq, lq-add1p, lq-add1n, lq-add2p, lq-add2n, lq-add3p, lq-add3n, eq-add1p, eq-add1n, eq-add2p, eq-add2n, eq-add3p, eq-add3n, ← +ℤ-assoc, negℤ-+ℤ, negℤ-negℤ, neg-P, neg-N, P-lit, N-lit, P-lit-r, N-lit-r, lit-add, lit-add-r, lit-neg, lit-neg-r, negsuc-l, negsuc-r)
+pub ruleset zlin = (
+  le-lq,
+  lt-lq,
+  eq-lq,
+  sfits-lq,
+  abs-lq,
+  lq-add1p,
+  lq-add1n,
+  lq-add2p,
+  lq-add2n,
+  lq-add3p,
+  lq-add3n,
+  eq-add1p,
+  eq-add1n,
+  eq-add2p,
+  eq-add2n,
+  eq-add3p,
+  eq-add3n,
+  ← +ℤ-assoc,
+  negℤ-+ℤ,
+  negℤ-negℤ,
+  neg-P,
+  neg-N,
+  P-lit,
+  N-lit,
+  P-lit-r,
+  N-lit-r,
+  lit-add,
+  lit-add-r,
+  lit-neg,
+  lit-neg-r,
+  negsuc-l,
+  negsuc-r,
+)

@@ -1,5 +1,6 @@
--- How linear arithmetic is done. `omega zorder` reads orders and equations of single integers; `simp zlin (omega zorder)` proves one of sums,
--- and `simp zlin at h` hands over a fact of sums. Literals stand to the right of sums and to the left of products.
+-- How linear arithmetic is done. `omega zorder` reads orders and equations of single integers;
+-- `simp zlin (omega zorder)` proves one of sums, and `simp zlin at h` hands over a fact of sums. Literals stand to the
+-- right of sums and to the left of products.
 use mathlib.Core.Path.{_≡_}
 use lib.IntN.{ℤ, pos, _+ℤ_, _-ℤ_, _*ℤ_}
 use lib.Signed.{_≤ℤ_, _<ℤ_}

@@ -35,10 +35,12 @@ diff-nonneg {x} {y} h = simp zlin (omega zorder)
 
 -- a factor that is not negative
 pub mul-mono-r : {a b c : ℤ} → a ≤ℤ b → pos 0 ≤ℤ c → (a *ℤ c) ≤ℤ (b *ℤ c)
-mul-mono-r {a} {b} {c} h k = le-by (ring (a ∷ b ∷ c ∷ []) (λ a b c. b ⊗ c ⊖ a ⊗ c) (λ a b c. (b ⊖ a) ⊗ c) refl) (nonneg-mul (diff-nonneg h) k)
+mul-mono-r {a} {b} {c} h k =
+    le-by (ring (a ∷ b ∷ c ∷ []) (λ a b c. b ⊗ c ⊖ a ⊗ c) (λ a b c. (b ⊖ a) ⊗ c) refl) (nonneg-mul (diff-nonneg h) k)
 
 pub mul-mono-l : {a b c : ℤ} → a ≤ℤ b → pos 0 ≤ℤ c → (c *ℤ a) ≤ℤ (c *ℤ b)
-mul-mono-l {a} {b} {c} h k = le-by (ring (a ∷ b ∷ c ∷ []) (λ a b c. c ⊗ b ⊖ c ⊗ a) (λ a b c. c ⊗ (b ⊖ a)) refl) (nonneg-mul k (diff-nonneg h))
+mul-mono-l {a} {b} {c} h k =
+    le-by (ring (a ∷ b ∷ c ∷ []) (λ a b c. c ⊗ b ⊖ c ⊗ a) (λ a b c. c ⊗ (b ⊖ a)) refl) (nonneg-mul k (diff-nonneg h))
 
 pub nonneg : {a : ℤ} → pos 0 <ℤ a → pos 0 ≤ℤ a
 nonneg h = omega zorder
@@ -53,17 +55,20 @@ pos-mul {a} {b} h k =
 pub mul-lt-r : {a b c : ℤ} → a <ℤ b → pos 0 <ℤ c → (a *ℤ c) <ℤ (b *ℤ c)
 mul-lt-r {a} {b} {c} h k =
     let less : pos 0 <ℤ (b -ℤ a) = simp zlin (omega zorder) in
-    let e : b *ℤ c ≡ a *ℤ c +ℤ (b -ℤ a) *ℤ c = ring (a ∷ b ∷ c ∷ []) (λ a b c. b ⊗ c) (λ a b c. a ⊗ c ⊕ (b ⊖ a) ⊗ c) refl in
+    let e : b *ℤ c ≡ a *ℤ c +ℤ (b -ℤ a) *ℤ c =
+    ring (a ∷ b ∷ c ∷ []) (λ a b c. b ⊗ c) (λ a b c. a ⊗ c ⊕ (b ⊖ a) ⊗ c) refl in
     rw e (simp zlin (omega (zorder, pos-mul less k)))
 
 -- a factor that is not positive
 pub mul-anti-r : {a b c : ℤ} → a ≤ℤ b → c ≤ℤ pos 0 → (b *ℤ c) ≤ℤ (a *ℤ c)
 mul-anti-r {a} {b} {c} h k =
-    le-by (ring (a ∷ b ∷ c ∷ []) (λ a b c. a ⊗ c ⊖ b ⊗ c) (λ a b c. (b ⊖ a) ⊗ (lit (pos 0) ⊖ c)) refl) (nonneg-mul (diff-nonneg h) (diff-nonneg k))
+    le-by (ring (a ∷ b ∷ c ∷ []) (λ a b c. a ⊗ c ⊖ b ⊗ c) (λ a b c. (b ⊖ a) ⊗ (lit (pos 0) ⊖ c)) refl)
+    (nonneg-mul (diff-nonneg h) (diff-nonneg k))
 
 pub mul-anti-l : {a b c : ℤ} → a ≤ℤ b → c ≤ℤ pos 0 → (c *ℤ b) ≤ℤ (c *ℤ a)
 mul-anti-l {a} {b} {c} h k =
-    le-by (ring (a ∷ b ∷ c ∷ []) (λ a b c. c ⊗ a ⊖ c ⊗ b) (λ a b c. (b ⊖ a) ⊗ (lit (pos 0) ⊖ c)) refl) (nonneg-mul (diff-nonneg h) (diff-nonneg k))
+    le-by (ring (a ∷ b ∷ c ∷ []) (λ a b c. c ⊗ a ⊖ c ⊗ b) (λ a b c. (b ⊖ a) ⊗ (lit (pos 0) ⊖ c)) refl)
+    (nonneg-mul (diff-nonneg h) (diff-nonneg k))
 
 -- a test on two numbers, as a branch leaves it
 pub ltZ-true : (a b : ℤ) → ltZ a b ≡ true → a <ℤ b
@@ -90,10 +95,12 @@ totalℤ a b = go (leZ a b) refl
 
 -- one factor fixed, the other between two ends: what is below both products at the ends is below the product
 pub above-l : {M c d t : ℤ} (s : ℤ) → c ≤ℤ t → t ≤ℤ d → M ≤ℤ (s *ℤ c) → M ≤ℤ (s *ℤ d) → M ≤ℤ (s *ℤ t)
-above-l s h k x y = ⊎-elim (λ w. omega (zorder, mul-mono-l h w)) (λ w. let n : s ≤ℤ pos 0 = omega zorder in omega (zorder, mul-anti-l k n)) (totalℤ (pos 0) s)
+above-l s h k x y = ⊎-elim (λ w. omega (zorder, mul-mono-l h w))
+    (λ w. let n : s ≤ℤ pos 0 = omega zorder in omega (zorder, mul-anti-l k n)) (totalℤ (pos 0) s)
 
 pub below-l : {M c d t : ℤ} (s : ℤ) → c ≤ℤ t → t ≤ℤ d → (s *ℤ c) ≤ℤ M → (s *ℤ d) ≤ℤ M → (s *ℤ t) ≤ℤ M
-below-l s h k x y = ⊎-elim (λ w. omega (zorder, mul-mono-l k w)) (λ w. let n : s ≤ℤ pos 0 = omega zorder in omega (zorder, mul-anti-l h n)) (totalℤ (pos 0) s)
+below-l s h k x y = ⊎-elim (λ w. omega (zorder, mul-mono-l k w))
+    (λ w. let n : s ≤ℤ pos 0 = omega zorder in omega (zorder, mul-anti-l h n)) (totalℤ (pos 0) s)
 
 pub above-r : {M s a b : ℤ} (t : ℤ) → a ≤ℤ s → s ≤ℤ b → M ≤ℤ (a *ℤ t) → M ≤ℤ (b *ℤ t) → M ≤ℤ (s *ℤ t)
 above-r {M} {s} {a} {b} t h k x y = rw (*ℤ-comm s t) (above-l t h k (rw (*ℤ-comm t a) x) (rw (*ℤ-comm t b) y))
@@ -128,6 +135,7 @@ cancel-r a b w p h = ⊎-elim (λ l. l) (λ l. absurd (no l)) (totalℤ a b)
         let s : (b +ℤ pos 1) ≤ℤ a = simp zlin (omega zorder) in
         let w0 : pos 0 ≤ℤ w = omega zorder in
         let t : ((b +ℤ pos 1) *ℤ w) ≤ℤ (a *ℤ w) = mul-mono-r s w0 in
-        let e : (b +ℤ pos 1) *ℤ w ≡ b *ℤ w +ℤ w = ring (b ∷ w ∷ []) (λ b w. (b ⊕ lit (pos 1)) ⊗ w) (λ b w. b ⊗ w ⊕ w) refl in
+        let e : (b +ℤ pos 1) *ℤ w ≡ b *ℤ w +ℤ w =
+        ring (b ∷ w ∷ []) (λ b w. (b ⊕ lit (pos 1)) ⊗ w) (λ b w. b ⊗ w ⊕ w) refl in
         let r : (b *ℤ w +ℤ w) ≤ℤ (a *ℤ w) = rw e at t in
         omega (zorder, simp zlin at r)

@@ -1,4 +1,5 @@
--- An integer as the difference of two naturals, P z - N z, one of them 0: the orders and the equation of integers become those of naturals, which omega reads.
+-- An integer as the difference of two naturals, P z - N z, one of them 0: the orders and the equation of integers
+-- become those of naturals, which omega reads.
 use mathlib.Core.Path.{_≡_, refl, ap, subst}
 use mathlib.Core.Bool.{Bool, true, false, not, cond}
 use Prim.Native.Nat.{ℕ, zero, suc, _+_, _-_, _≤_, _<_}

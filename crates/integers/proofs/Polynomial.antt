@@ -1,4 +1,5 @@
--- Orders between polynomial expressions, by omega: each monomial of the normal form of r - l is handed over as one unknown.
+-- Orders between polynomial expressions, by omega: each monomial of the normal form of r - l is handed over as one
+-- unknown.
 --     given ρ l r h     what h : (the value of l) ≤ℤ (the value of r) says of those unknowns
 --     shown ρ l r t     such an order, from what it says
 -- l and r are functions of the variables, whose values are ρ, as in `ring`. `shown<` likewise.
@@ -39,11 +40,20 @@ less ρ (term (negsuc c) m p) = suc c * P (mon ρ m) + less ρ p
 split : (ρ : List ℤ) (p : Poly) → P (pval ρ p) + less ρ p ≡ N (pval ρ p) + plus ρ p
 split ρ nil = refl
 split ρ (term (pos c) m p) =
-    rw (← mon-val ρ m) (omega (arith, add-pn (pos c *ℤ mon ρ m) (pval ρ p), P-lit c (mon ρ m), N-lit c (mon ρ m), split ρ p))
+    rw (← mon-val ρ m)
+    (omega (arith, add-pn (pos c *ℤ mon ρ m) (pval ρ p), P-lit c (mon ρ m), N-lit c (mon ρ m), split ρ p))
 split ρ (term (negsuc c) m p) =
     let t = pos (suc c) *ℤ mon ρ m in
     rw (← mon-val ρ m) (rw (neg-*ℤ (pos (suc c)) (mon ρ m))
-    (omega (arith, add-pn (negℤ t) (pval ρ p), neg-P t, neg-N t, P-lit (suc c) (mon ρ m), N-lit (suc c) (mon ρ m), split ρ p)))
+    (omega (
+      arith,
+      add-pn (negℤ t) (pval ρ p),
+      neg-P t,
+      neg-N t,
+      P-lit (suc c) (mon ρ m),
+      N-lit (suc c) (mon ρ m),
+      split ρ p,
+    )))
 
 module _ (ρ : List ℤ) (l r : Over (length ρ)) where
   abbrev pub left : Ex

@@ -52,7 +52,8 @@ pub within-more : {z : ℤ} {A : ℕ} (B : ℕ) → Within z A → T (leb A B) �
 within-more {z} {A} B h t = record { abs = le-trans (h .abs) (leb→le A B t) }
 
 pub within-mid : {a b z : ℤ} {B : ℕ} → Within a B → Within b B → a ≤ℤ z → z ≤ℤ b → Within z B
-within-mid {a} {b} {z} {B} h k p q = record { abs = (abs-lq z B) .1 (omega (zorder, abs-pn a, abs-pn b, neg-P z, neg-N z)) }
+within-mid {a} {b} {z} {B} h k p q =
+    record { abs = (abs-lq z B) .1 (omega (zorder, abs-pn a, abs-pn b, neg-P z, neg-N z)) }
 
 mag-abs : (z : ℤ) (H : ℕ) → natAbs z < H → mag z < H
 mag-abs (pos n) H h = h

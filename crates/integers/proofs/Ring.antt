@@ -1,13 +1,15 @@
--- A normaliser of polynomial expressions over the integers. `ring ρ e f refl` proves that e and f have the same value at ρ where their normal forms are the same.
--- A monomial is the list of its variables in rising order, a polynomial a list of terms, coefficient and monomial, in falling lexicographic order. Only the
--- value is proved of each step; the order is what makes normal forms meet.
+-- A normaliser of polynomial expressions over the integers. `ring ρ e f refl` proves that e and f have the same value
+-- at ρ where their normal forms are the same.
+-- A monomial is the list of its variables in rising order, a polynomial a list of terms, coefficient and monomial, in
+-- falling lexicographic order. Only the value is proved of each step; the order is what makes normal forms meet.
 use mathlib.Core.Path.{_≡_, refl, sym, ap, _∙_}
 use mathlib.Core.List.{List, [], _∷_}
 use lib.ListN.{length}
 use Prim.Native.Nat.{ℕ, zero, suc, compare, Ordering, Ordering·lt, Ordering·eq, Ordering·gt}
 use lib.Dec.{T, isEq, eqb→eq}
 use lib.IntN.{ℤ, pos, negsuc, negℤ, _+ℤ_, _-ℤ_, _*ℤ_, +ℤ-idl, +ℤ-idr, +ℤ-assoc, +ℤ-comm, *ℤ-comm, *ℤ-zero, zero-*ℤ}
-use Rattle.integers.proofs.Commutative.{*ℤ-distrib-l, *ℤ-distrib-r, neg-*ℤ, *ℤ-assoc, one-*ℤ, *ℤ-left-comm, +ℤ-left-comm, swap4}
+use Rattle.integers.proofs.Commutative.{*ℤ-distrib-l, *ℤ-distrib-r, neg-*ℤ, *ℤ-assoc}
+use Rattle.integers.proofs.Commutative.{one-*ℤ, *ℤ-left-comm, +ℤ-left-comm, swap4}
 
 infixl 6 _⊕_ _⊖_
 infixl 7 _⊗_
@@ -40,7 +42,8 @@ mval ρ (i ∷ m) = at ρ i *ℤ mval ρ m
 
 abbrev minto : ℕ → (List ℕ → List ℕ) → List ℕ → List ℕ
 minto i rec [] = i ∷ rec []
-minto i rec (j ∷ n) = elim (compare i j) [ Ordering·lt ↦ i ∷ rec (j ∷ n) | Ordering·eq ↦ i ∷ rec (j ∷ n) | Ordering·gt ↦ j ∷ minto i rec n ]
+minto i rec (j ∷ n) = elim (compare i j)
+    [ Ordering·lt ↦ i ∷ rec (j ∷ n) | Ordering·eq ↦ i ∷ rec (j ∷ n) | Ordering·gt ↦ j ∷ minto i rec n ]
 
 abbrev mmul : List ℕ → List ℕ → List ℕ
 mmul [] n = n
@@ -51,7 +54,8 @@ abbrev mcmp : List ℕ → List ℕ → Ordering
 mcmp [] [] = Ordering·eq
 mcmp [] (j ∷ n) = Ordering·gt
 mcmp (i ∷ m) [] = Ordering·lt
-mcmp (i ∷ m) (j ∷ n) = elim (compare i j) [ Ordering·lt ↦ Ordering·lt | Ordering·eq ↦ mcmp m n | Ordering·gt ↦ Ordering·gt ]
+mcmp (i ∷ m) (j ∷ n) =
+    elim (compare i j) [ Ordering·lt ↦ Ordering·lt | Ordering·eq ↦ mcmp m n | Ordering·gt ↦ Ordering·gt ]
 
 module _ (ρ : List ℤ) where
   minto-val : (i : ℕ) (x : ℤ) (rec : List ℕ → List ℕ) → ((n : List ℕ) → mval ρ (rec n) ≡ x *ℤ mval ρ n) → (n : List ℕ)
@@ -63,7 +67,11 @@ module _ (ρ : List ℤ) where
       here = ap (λ (y : ℤ). at ρ i *ℤ y) (h (j ∷ n)) ∙ sym (*ℤ-assoc (at ρ i) x (mval ρ (j ∷ n)))
 
       go : (o : Ordering) → mval ρ (minto i rec n) ≡ (at ρ i *ℤ x) *ℤ mval ρ n
-          → mval ρ (elim o [ Ordering·lt ↦ i ∷ rec (j ∷ n) | Ordering·eq ↦ i ∷ rec (j ∷ n) | Ordering·gt ↦ j ∷ minto i rec n ]) ≡ (at ρ i *ℤ x) *ℤ mval ρ (j ∷ n)
+          → mval ρ (elim o [
+            | Ordering·lt ↦ i ∷ rec (j ∷ n)
+            | Ordering·eq ↦ i ∷ rec (j ∷ n)
+            | Ordering·gt ↦ j ∷ minto i rec n
+          ]) ≡ (at ρ i *ℤ x) *ℤ mval ρ (j ∷ n)
       go Ordering·lt k = here
       go Ordering·eq k = here
       go Ordering·gt k = ap (λ (y : ℤ). at ρ j *ℤ y) k ∙ *ℤ-left-comm (at ρ j) (at ρ i *ℤ x) (mval ρ n)
@@ -82,7 +90,8 @@ mcmp-eq (i ∷ m) [] t = absurd t
 mcmp-eq (i ∷ m) (j ∷ n) t = go (compare i j) (eqb→eq i j) (mcmp-eq m n) t
   where
     go : (o : Ordering) → (T (isEq o) → i ≡ j) → (IsEq (mcmp m n) → m ≡ n)
-        → IsEq (elim o [ Ordering·lt ↦ Ordering·lt | Ordering·eq ↦ mcmp m n | Ordering·gt ↦ Ordering·gt ]) → i ∷ m ≡ j ∷ n
+        → IsEq (elim o [ Ordering·lt ↦ Ordering·lt | Ordering·eq ↦ mcmp m n | Ordering·gt ↦ Ordering·gt ])
+        → i ∷ m ≡ j ∷ n
     go Ordering·lt f g t = absurd t
     go Ordering·eq f g t = ap (λ (k : ℕ). k ∷ m) (f tt) ∙ ap (λ (l : List ℕ). j ∷ l) (g t)
     go Ordering·gt f g t = absurd t
@@ -105,7 +114,11 @@ keep (negsuc n) m p = term (negsuc n) m p
 abbrev pinto : ℤ → List ℕ → (Poly → Poly) → Poly → Poly
 pinto c m rec nil = term c m (rec nil)
 pinto c m rec (term d n q) =
-    elim (mcmp m n) [ Ordering·lt ↦ term c m (rec (term d n q)) | Ordering·eq ↦ keep (c +ℤ d) n (rec q) | Ordering·gt ↦ term d n (pinto c m rec q) ]
+    elim (mcmp m n) [
+      | Ordering·lt ↦ term c m (rec (term d n q))
+      | Ordering·eq ↦ keep (c +ℤ d) n (rec q)
+      | Ordering·gt ↦ term d n (pinto c m rec q)
+    ]
 
 abbrev padd : Poly → Poly → Poly
 padd nil q = q
@@ -133,19 +146,27 @@ module _ (ρ : List ℤ) where
   keep-val (pos (suc n)) m p = refl
   keep-val (negsuc n) m p = refl
 
-  pinto-val : (c : ℤ) (m : List ℕ) (x : ℤ) (rec : Poly → Poly) → ((q : Poly) → pval ρ (rec q) ≡ x +ℤ pval ρ q) → (q : Poly)
+  pinto-val : (c : ℤ) (m : List ℕ) (x : ℤ) (rec : Poly → Poly)
+      → ((q : Poly) → pval ρ (rec q) ≡ x +ℤ pval ρ q) → (q : Poly)
       → pval ρ (pinto c m rec q) ≡ (c *ℤ mval ρ m +ℤ x) +ℤ pval ρ q
   pinto-val c m x rec h nil = ap (λ (y : ℤ). c *ℤ mval ρ m +ℤ y) (h nil) ∙ sym (+ℤ-assoc (c *ℤ mval ρ m) x (pos 0))
   pinto-val c m x rec h (term d n q) = go (mcmp m n) (mcmp-eq m n) (pinto-val c m x rec h q)
     where
       go : (o : Ordering) → (IsEq o → m ≡ n) → pval ρ (pinto c m rec q) ≡ (c *ℤ mval ρ m +ℤ x) +ℤ pval ρ q
-          → pval ρ (elim o [ Ordering·lt ↦ term c m (rec (term d n q)) | Ordering·eq ↦ keep (c +ℤ d) n (rec q) | Ordering·gt ↦ term d n (pinto c m rec q) ]) ≡ (c *ℤ mval ρ m +ℤ x) +ℤ (d *ℤ mval ρ n +ℤ pval ρ q)
-      go Ordering·lt f k = ap (λ (y : ℤ). c *ℤ mval ρ m +ℤ y) (h (term d n q)) ∙ sym (+ℤ-assoc (c *ℤ mval ρ m) x (d *ℤ mval ρ n +ℤ pval ρ q))
+          → pval ρ (elim o [
+            | Ordering·lt ↦ term c m (rec (term d n q))
+            | Ordering·eq ↦ keep (c +ℤ d) n (rec q)
+            | Ordering·gt ↦ term d n (pinto c m rec q)
+          ]) ≡ (c *ℤ mval ρ m +ℤ x) +ℤ (d *ℤ mval ρ n +ℤ pval ρ q)
+      go Ordering·lt f k = ap (λ (y : ℤ). c *ℤ mval ρ m +ℤ y) (h (term d n q))
+          ∙ sym (+ℤ-assoc (c *ℤ mval ρ m) x (d *ℤ mval ρ n +ℤ pval ρ q))
       go Ordering·eq f k =
           keep-val (c +ℤ d) n (rec q) ∙ ap (λ (y : ℤ). (c +ℤ d) *ℤ mval ρ n +ℤ y) (h q)
-          ∙ ap (λ (y : ℤ). y +ℤ (x +ℤ pval ρ q)) (*ℤ-distrib-r c d (mval ρ n) ∙ ap (λ (l : List ℕ). c *ℤ mval ρ l +ℤ d *ℤ mval ρ n) (sym (f tt)))
+          ∙ ap (λ (y : ℤ). y +ℤ (x +ℤ pval ρ q))
+          (*ℤ-distrib-r c d (mval ρ n) ∙ ap (λ (l : List ℕ). c *ℤ mval ρ l +ℤ d *ℤ mval ρ n) (sym (f tt)))
           ∙ swap4 (c *ℤ mval ρ m) (d *ℤ mval ρ n) x (pval ρ q)
-      go Ordering·gt f k = ap (λ (y : ℤ). d *ℤ mval ρ n +ℤ y) k ∙ +ℤ-left-comm (d *ℤ mval ρ n) (c *ℤ mval ρ m +ℤ x) (pval ρ q)
+      go Ordering·gt f k =
+          ap (λ (y : ℤ). d *ℤ mval ρ n +ℤ y) k ∙ +ℤ-left-comm (d *ℤ mval ρ n) (c *ℤ mval ρ m +ℤ x) (pval ρ q)
 
   padd-val : (p q : Poly) → pval ρ (padd p q) ≡ pval ρ p +ℤ pval ρ q
   padd-val nil q = sym (+ℤ-idl (pval ρ q))
@@ -179,12 +200,16 @@ module _ (ρ : List ℤ) where
   norm-val (v i) = +ℤ-idr (pos 1 *ℤ (at ρ i *ℤ pos 1)) ∙ one-*ℤ (at ρ i *ℤ pos 1) ∙ one-r (at ρ i)
   norm-val (lit k) = keep-val k [] nil ∙ +ℤ-idr (k *ℤ pos 1) ∙ one-r k
   norm-val (e ⊕ f) =
-      padd-val (norm f) (norm e) ∙ +ℤ-comm (pval ρ (norm f)) (pval ρ (norm e)) ∙ ap (λ (y : ℤ). y +ℤ pval ρ (norm f)) (norm-val e)
+      padd-val (norm f) (norm e) ∙ +ℤ-comm (pval ρ (norm f)) (pval ρ (norm e))
+      ∙ ap (λ (y : ℤ). y +ℤ pval ρ (norm f)) (norm-val e)
       ∙ ap (λ (y : ℤ). val ρ e +ℤ y) (norm-val f)
   norm-val (e ⊖ f) =
-      padd-val (pscale (negsuc 0) [] (norm f)) (norm e) ∙ +ℤ-comm (pval ρ (pscale (negsuc 0) [] (norm f))) (pval ρ (norm e))
-      ∙ ap (λ (y : ℤ). y +ℤ pval ρ (pscale (negsuc 0) [] (norm f))) (norm-val e) ∙ ap (λ (y : ℤ). val ρ e +ℤ y) (minus-val (norm f) ∙ ap negℤ (norm-val f))
-  norm-val (e ⊗ f) = pmul-val (norm e) (norm f) ∙ ap (λ (y : ℤ). y *ℤ pval ρ (norm f)) (norm-val e) ∙ ap (λ (y : ℤ). val ρ e *ℤ y) (norm-val f)
+      padd-val (pscale (negsuc 0) [] (norm f)) (norm e)
+      ∙ +ℤ-comm (pval ρ (pscale (negsuc 0) [] (norm f))) (pval ρ (norm e))
+      ∙ ap (λ (y : ℤ). y +ℤ pval ρ (pscale (negsuc 0) [] (norm f))) (norm-val e)
+      ∙ ap (λ (y : ℤ). val ρ e +ℤ y) (minus-val (norm f) ∙ ap negℤ (norm-val f))
+  norm-val (e ⊗ f) = pmul-val (norm e) (norm f) ∙ ap (λ (y : ℤ). y *ℤ pval ρ (norm f)) (norm-val e)
+      ∙ ap (λ (y : ℤ). val ρ e *ℤ y) (norm-val f)
   norm-val (neg e) = minus-val (norm e) ∙ ap negℤ (norm-val e)
 
   ringAt : (e f : Ex) → norm e ≡ norm f → val ρ e ≡ val ρ f

@@ -55,35 +55,36 @@ module _ (m : ℕ) (h : 0 < m) where
   unfolding ceilBy
   ceil-ge x = simp zlin (omega (zorder, simp zlin at (floor-le (negℤ x))))
 
-  pub ceil-gt : (x : ℤ) → (pos m *ℤ ceilBy m x) <ℤ (x +ℤ pos m)
-  unfolding ceilBy
-  ceil-gt x = simp zlin (omega (zorder, simp zlin at (floor-lt (negℤ x))))
-
   pub ceil-least : (q x : ℤ) → x ≤ℤ (pos m *ℤ q) → ceilBy m x ≤ℤ q
   unfolding ceilBy
   ceil-least q x k =
-      let g : negℤ q ≤ℤ floorBy m (negℤ x) = floor-greatest (negℤ q) (negℤ x) (simp zlin (omega (zorder, simp zlin at k))) in
+      let g : negℤ q ≤ℤ floorBy m (negℤ x) =
+      floor-greatest (negℤ q) (negℤ x) (simp zlin (omega (zorder, simp zlin at k))) in
       simp zlin (omega (zorder, simp zlin at g))
 
   pub ceil-unique : (q x : ℤ) → x ≤ℤ (pos m *ℤ q) → (pos m *ℤ q) <ℤ (x +ℤ pos m) → q ≡ ceilBy m x
   unfolding ceilBy
   ceil-unique q x k l =
       sym (negℤ-negℤ q)
-      ∙ ap negℤ (floor-unique (negℤ q) (negℤ x) (simp zlin (omega (zorder, simp zlin at k))) (simp zlin (omega (zorder, simp zlin at l))))
+      ∙ ap negℤ (floor-unique (negℤ q) (negℤ x) (simp zlin (omega (zorder, simp zlin at k)))
+      (simp zlin (omega (zorder, simp zlin at l))))
 
   pub ceil-mono : (x y : ℤ) → x ≤ℤ y → ceilBy m x ≤ℤ ceilBy m y
   ceil-mono x y k = ceil-least (ceilBy m y) x (omega (zorder, ceil-ge y))
 
   pub floor≤ceil : (x : ℤ) → floorBy m x ≤ℤ ceilBy m x
-  floor≤ceil x = under (floorBy m x) (ceilBy m x) (simp zlin (omega (zorder, simp zlin at (floor-le x), simp zlin at (ceil-ge x))))
+  floor≤ceil x =
+      under (floorBy m x) (ceilBy m x) (simp zlin (omega (zorder, simp zlin at (floor-le x), simp zlin at (ceil-ge x))))
 
   -- two numbers rounded by themselves, and their sum rounded once
   pub floor-super : (x y : ℤ) → (floorBy m x +ℤ floorBy m y) ≤ℤ floorBy m (x +ℤ y)
   floor-super x y =
-      floor-greatest (floorBy m x +ℤ floorBy m y) (x +ℤ y) (simp zlin (omega (zorder, simp zlin at (floor-le x), simp zlin at (floor-le y))))
+      floor-greatest (floorBy m x +ℤ floorBy m y) (x +ℤ y)
+      (simp zlin (omega (zorder, simp zlin at (floor-le x), simp zlin at (floor-le y))))
 
   pub ceil-sub : (x y : ℤ) → ceilBy m (x +ℤ y) ≤ℤ (ceilBy m x +ℤ ceilBy m y)
-  ceil-sub x y = ceil-least (ceilBy m x +ℤ ceilBy m y) (x +ℤ y) (simp zlin (omega (zorder, simp zlin at (ceil-ge x), simp zlin at (ceil-ge y))))
+  ceil-sub x y = ceil-least (ceilBy m x +ℤ ceilBy m y) (x +ℤ y)
+      (simp zlin (omega (zorder, simp zlin at (ceil-ge x), simp zlin at (ceil-ge y))))
 
   -- a bound on x that is at most m times B gives B
   pub floor-within : {x : ℤ} {A : ℕ} (B : ℕ) → Within x A → A ≤ m * B → Within (floorBy m x) B
@@ -92,7 +93,8 @@ module _ (m : ℕ) (h : 0 < m) where
       low : negℤ (pos B) ≤ℤ floorBy m x
       low =
           floor-greatest (negℤ (pos B)) x
-          (rw (*ℤ-neg (pos m) (pos B)) (omega (zorder, within-lo w, neg-P (pos (m * B)), neg-N (pos (m * B)), neg-P (pos A), neg-N (pos A))))
+          (rw (*ℤ-neg (pos m) (pos B))
+          (omega (zorder, within-lo w, neg-P (pos (m * B)), neg-N (pos (m * B)), neg-P (pos A), neg-N (pos A))))
 
       high : floorBy m x ≤ℤ pos B
       high = under (floorBy m x) (pos B) (omega (zorder, floor-le x, within-hi w))

@@ -1,4 +1,5 @@
--- How rounding is used: its two sides pin it, and with `floor-greatest` and `ceil-least` every order is an order of products.
+-- How rounding is used: its two sides pin it, and with `floor-greatest` and `ceil-least` every order is an order of
+-- products.
 use mathlib.Core.Path.{_≡_, refl}
 use lib.Dec.{lit<}
 use lib.IntN.{ℤ, pos, negsuc, _*ℤ_}

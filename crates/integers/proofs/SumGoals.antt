@@ -14,5 +14,6 @@ weighted n x f g = sum-add n (λ k. x *ℤ f k) (λ k. x *ℤ g k) ∙ rw (sum-m
 exchanged : (n m : ℕ) (f : ℕ → ℕ → ℤ) → sumTo n (λ i. sumTo m (λ j. f i j)) ≡ sumTo m (λ j. sumTo n (λ i. f i j))
 exchanged n m f = sum-swap n m f
 
-larger : (n : ℕ) (f g : ℕ → ℤ) → ((k : ℕ) → k < n → f k ≤ℤ g k) → sumTo n (λ k. pos 3 *ℤ f k) ≤ℤ sumTo n (λ k. pos 3 *ℤ g k)
+larger : (n : ℕ) (f g : ℕ → ℤ) → ((k : ℕ) → k < n → f k ≤ℤ g k)
+    → sumTo n (λ k. pos 3 *ℤ f k) ≤ℤ sumTo n (λ k. pos 3 *ℤ g k)
 larger n f g h = sum-le n (λ k. pos 3 *ℤ f k) (λ k. pos 3 *ℤ g k) (λ k l. mul-mono-l {c = pos 3} (h k l) (omega zorder))

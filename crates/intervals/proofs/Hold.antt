@@ -71,15 +71,18 @@ hold-neg {u} {U} {A} h = record {
   high = rw (neg-*ℤ (A .lo) U) (simp zlin (omega (zorder, h .low)));
 }
 
-pub hold-sum : (n : ℕ) (f : ℕ → ℤ) (G : ℕ → Interval) {U : ℤ} → pos 0 <ℤ U → ((k : ℕ) → k < n → In (f k) U (G k)) → In (sumTo n f) U (sumI n G)
+pub hold-sum : (n : ℕ) (f : ℕ → ℤ) (G : ℕ → Interval) {U : ℤ} → pos 0 <ℤ U → ((k : ℕ) → k < n → In (f k) U (G k))
+    → In (sumTo n f) U (sumI n G)
 unfolding sumTo sumI carry
 hold-sum zero f G p h = hold-zero p
 hold-sum (suc n) f G p h = hold-add (hold-sum n f G p (λ k l. h k (omega arith))) (h n (omega arith))
 
 -- e members, each its own, added up
-pub hold-times : (e : ℕ) (f : ℕ → ℤ) {U : ℤ} {A : Interval} → pos 0 <ℤ U → ((i : ℕ) → i < e → In (f i) U A) → In (sumTo e f) U (scaleI e A)
+pub hold-times : (e : ℕ) (f : ℕ → ℤ) {U : ℤ} {A : Interval} → pos 0 <ℤ U → ((i : ℕ) → i < e → In (f i) U A)
+    → In (sumTo e f) U (scaleI e A)
 unfolding sumTo scaleI
-hold-times zero f {U} {A} p h = record { den = p; low = rw (zero-*ℤ (A .lo)) (hold-zero p .low); high = rw (zero-*ℤ (A .hi)) (hold-zero p .high) }
+hold-times zero f {U} {A} p h =
+    record { den = p; low = rw (zero-*ℤ (A .lo)) (hold-zero p .low); high = rw (zero-*ℤ (A .hi)) (hold-zero p .high) }
 hold-times (suc e) f {U} {A} p h =
     let r = hold-times e f p (λ i l. h i (omega arith)) in
     let t = h e (omega arith) in
@@ -90,7 +93,8 @@ hold-times (suc e) f {U} {A} p h =
     }
   where
     more : (e : ℕ) (a : ℤ) → (pos (suc e) *ℤ a) *ℤ U ≡ (pos e *ℤ a) *ℤ U +ℤ a *ℤ U
-    more e a = ap (λ (x : ℤ). (x *ℤ a) *ℤ U) one ∙ ring (pos e ∷ a ∷ U ∷ []) (λ e a u. ((e ⊕ lit (pos 1)) ⊗ a) ⊗ u) (λ e a u. (e ⊗ a) ⊗ u ⊕ a ⊗ u) refl
+    more e a = ap (λ (x : ℤ). (x *ℤ a) *ℤ U) one
+        ∙ ring (pos e ∷ a ∷ U ∷ []) (λ e a u. ((e ⊕ lit (pos 1)) ⊗ a) ⊗ u) (λ e a u. (e ⊗ a) ⊗ u ⊕ a ⊗ u) refl
       where
         one : pos (suc e) ≡ pos e +ℤ pos 1
         one = simp zlin (omega zorder)
@@ -106,11 +110,15 @@ hold-wide {u} {U} {v} {W} {A} {B} h k =
     record {
       den = pos-mul (h .den) (k .den);
       low = above-l {M = L *ℤ M} u (k .low) (k .high)
-          (above-r {M = L *ℤ M} (c *ℤ W) (h .low) (h .high) (below L a c (min4-1 _ _ _ _)) (below L b c (min4-3 _ _ _ _)))
-          (above-r {M = L *ℤ M} (d *ℤ W) (h .low) (h .high) (below L a d (min4-2 _ _ _ _)) (below L b d (min4-4 _ _ _ _)));
+          (above-r {M = L *ℤ M} (c *ℤ W) (h .low) (h .high) (below L a c (min4-1 _ _ _ _))
+          (below L b c (min4-3 _ _ _ _)))
+          (above-r {M = L *ℤ M} (d *ℤ W) (h .low) (h .high) (below L a d (min4-2 _ _ _ _))
+          (below L b d (min4-4 _ _ _ _)));
       high = below-l {M = H *ℤ M} u (k .low) (k .high)
-          (below-r {M = H *ℤ M} (c *ℤ W) (h .low) (h .high) (above H a c (max4-1 _ _ _ _)) (above H b c (max4-3 _ _ _ _)))
-          (below-r {M = H *ℤ M} (d *ℤ W) (h .low) (h .high) (above H a d (max4-2 _ _ _ _)) (above H b d (max4-4 _ _ _ _)));
+          (below-r {M = H *ℤ M} (c *ℤ W) (h .low) (h .high) (above H a c (max4-1 _ _ _ _))
+          (above H b c (max4-3 _ _ _ _)))
+          (below-r {M = H *ℤ M} (d *ℤ W) (h .low) (h .high) (above H a d (max4-2 _ _ _ _))
+          (above H b d (max4-4 _ _ _ _)));
     }
   where
     swap : (x y : ℤ) → (x *ℤ y) *ℤ (U *ℤ W) ≡ (x *ℤ U) *ℤ (y *ℤ W)

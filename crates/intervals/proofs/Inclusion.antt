@@ -1,4 +1,5 @@
--- Intervals within intervals: smaller factors give a smaller product, factors may change places, a product over a sum lies in the sum of products.
+-- Intervals within intervals: smaller factors give a smaller product, factors may change places, a product over a sum
+-- lies in the sum of products.
 use mathlib.Core.Path.{_≡_}
 use lib.IntN.{ℤ, _+ℤ_, _*ℤ_, *ℤ-comm}
 use lib.Signed.{_≤ℤ_}
@@ -7,7 +8,8 @@ use Rattle.integers.proofs.Parts.{zorder}
 use Rattle.integers.proofs.Linear.{zlin}
 use Rattle.integers.proofs.Rounding.{floor-mono, ceil-mono, floor-super, ceil-sub}
 use Rattle.integers.specs.Least.{min4, max4}
-use Rattle.integers.proofs.Least.{min4-1, min4-2, min4-3, min4-4, max4-1, max4-2, max4-3, max4-4, min4-mul, max4-mul, min4-greatest, max4-least}
+use Rattle.integers.proofs.Least.{min4-1, min4-2, min4-3, min4-4, max4-1, max4-2, max4-3}
+use Rattle.integers.proofs.Least.{max4-4, min4-mul, max4-mul, min4-greatest, max4-least}
 use Rattle.intervals.specs.declared.Interval.{Interval}
 use Rattle.intervals.specs.Interval.{mark, addI, wideI, outI, mulI}
 use Rattle.intervals.specs.Fraction.{Inside}
@@ -19,7 +21,8 @@ inside-trans h k = record { low = omega (zorder, h .low, k .low); high = omega (
 
 pub inside-out : {A B : Interval} → Inside A B → Inside (outI A) (outI B)
 unfolding outI
-inside-out {A} {B} h = record { low = floor-mono mark some (B .lo) (A .lo) (h .low); high = ceil-mono mark some (A .hi) (B .hi) (h .high) }
+inside-out {A} {B} h =
+    record { low = floor-mono mark some (B .lo) (A .lo) (h .low); high = ceil-mono mark some (A .hi) (B .hi) (h .high) }
 
 -- a sum rounded once lies in the sum of its parts rounded by themselves
 pub out-sum : (A B : Interval) → Inside (outI (addI A B)) (addI (outI A) (outI B))
@@ -32,9 +35,11 @@ module _ {A B C D : Interval} (oa : A .lo ≤ℤ A .hi) (ob : B .lo ≤ℤ B .hi
   unfolding wideI
   inside-wide = record {
     low = min4-greatest _ _ _ _ _
-        (min4-mul (h .low) ah (k .low) bh) (min4-mul (h .low) ah bl (k .high)) (min4-mul al (h .high) (k .low) bh) (min4-mul al (h .high) bl (k .high));
+        (min4-mul (h .low) ah (k .low) bh) (min4-mul (h .low) ah bl (k .high)) (min4-mul al (h .high) (k .low) bh)
+        (min4-mul al (h .high) bl (k .high));
     high = max4-least
-        (max4-mul (h .low) ah (k .low) bh) (max4-mul (h .low) ah bl (k .high)) (max4-mul al (h .high) (k .low) bh) (max4-mul al (h .high) bl (k .high));
+        (max4-mul (h .low) ah (k .low) bh) (max4-mul (h .low) ah bl (k .high)) (max4-mul al (h .high) (k .low) bh)
+        (max4-mul al (h .high) bl (k .high));
   }
     where
       ah : A .lo ≤ℤ C .hi
@@ -80,11 +85,15 @@ module _ (A B C : Interval) where
   unfolding wideI addI
   wide-over-sum = record {
     low = min4-greatest _ _ _ _ _
-        (above (A .lo) (B .lo) (C .lo) (min4-1 _ _ _ _) (min4-1 _ _ _ _)) (above (A .lo) (B .hi) (C .hi) (min4-2 _ _ _ _) (min4-2 _ _ _ _))
-        (above (A .hi) (B .lo) (C .lo) (min4-3 _ _ _ _) (min4-3 _ _ _ _)) (above (A .hi) (B .hi) (C .hi) (min4-4 _ _ _ _) (min4-4 _ _ _ _));
+        (above (A .lo) (B .lo) (C .lo) (min4-1 _ _ _ _) (min4-1 _ _ _ _))
+        (above (A .lo) (B .hi) (C .hi) (min4-2 _ _ _ _) (min4-2 _ _ _ _))
+        (above (A .hi) (B .lo) (C .lo) (min4-3 _ _ _ _) (min4-3 _ _ _ _))
+        (above (A .hi) (B .hi) (C .hi) (min4-4 _ _ _ _) (min4-4 _ _ _ _));
     high = max4-least
-        (below (A .lo) (B .lo) (C .lo) (max4-1 _ _ _ _) (max4-1 _ _ _ _)) (below (A .lo) (B .hi) (C .hi) (max4-2 _ _ _ _) (max4-2 _ _ _ _))
-        (below (A .hi) (B .lo) (C .lo) (max4-3 _ _ _ _) (max4-3 _ _ _ _)) (below (A .hi) (B .hi) (C .hi) (max4-4 _ _ _ _) (max4-4 _ _ _ _));
+        (below (A .lo) (B .lo) (C .lo) (max4-1 _ _ _ _) (max4-1 _ _ _ _))
+        (below (A .lo) (B .hi) (C .hi) (max4-2 _ _ _ _) (max4-2 _ _ _ _))
+        (below (A .hi) (B .lo) (C .lo) (max4-3 _ _ _ _) (max4-3 _ _ _ _))
+        (below (A .hi) (B .hi) (C .hi) (max4-4 _ _ _ _) (max4-4 _ _ _ _));
   }
     where
       above : {L M : ℤ} (x c e : ℤ) → L ≤ℤ (x *ℤ c) → M ≤ℤ (x *ℤ e) → (L +ℤ M) ≤ℤ (x *ℤ (c +ℤ e))

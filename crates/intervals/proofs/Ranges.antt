@@ -20,7 +20,8 @@ use Rattle.integers.proofs.Order.{mul-mono-l}
 use Rattle.integers.proofs.Rounding.{floor-mono, floor≤ceil, floor-within, ceil-within, mid-lo, mid-hi}
 use Rattle.lists.specs.Loops.{carry}
 use Rattle.intervals.specs.declared.Interval.{Interval}
-use Rattle.intervals.specs.Interval.{mark, zeroI, pointI, addI, negI, sumI, scaleI, wideI, outI, mulI, midI, cutI, meetsI}
+use Rattle.intervals.specs.Interval.{mark, zeroI, pointI, addI, negI, sumI, scaleI}
+use Rattle.intervals.specs.Interval.{wideI, outI, mulI, midI, cutI, meetsI}
 use Rattle.intervals.specs.Ranges.{FitsAdd, FitsNeg, FitsScale, FitsMid, FitsMul, FitsTimes, InI}
 use Rattle.intervals.proofs.Division.{some}
 use Rattle.intervals.proofs.Meeting.{cut-inside, cut-order}
@@ -32,22 +33,35 @@ pub in-point : {B : ℕ} {c : ℤ} → Within c B → InI B (pointI c)
 in-point h = record { order = omega zorder; low = h; high = h }
 
 pub in-more : {A B : ℕ} {a : Interval} → A ≤ B → InI A a → InI B a
-in-more l h = record { order = h .order; low = record { abs = le-trans (h .low .abs) l }; high = record { abs = le-trans (h .high .abs) l } }
+in-more l h = record {
+  order = h .order;
+  low = record { abs = le-trans (h .low .abs) l };
+  high = record { abs = le-trans (h .high .abs) l };
+}
 
 pub in-add : {A B : ℕ} {a b : Interval} → InI A a → InI B b → InI (A + B) (addI a b)
 unfolding addI
-in-add h k = record { order = sums (h .order) (k .order); low = within-add (h .low) (k .low); high = within-add (h .high) (k .high) }
+in-add h k = record {
+  order = sums (h .order) (k .order);
+  low = within-add (h .low) (k .low);
+  high = within-add (h .high) (k .high);
+}
   where
     sums : {a b c d : ℤ} → a ≤ℤ b → c ≤ℤ d → (a +ℤ c) ≤ℤ (b +ℤ d)
     sums h k = simp zlin (omega zorder)
 
 pub in-neg : {A : ℕ} {a : Interval} → InI A a → InI A (negI a)
 unfolding negI
-in-neg h = record { order = simp zlin (omega (zorder, h .order)); low = within-neg (h .high); high = within-neg (h .low) }
+in-neg h =
+    record { order = simp zlin (omega (zorder, h .order)); low = within-neg (h .high); high = within-neg (h .low) }
 
 pub in-scale : {A : ℕ} {a : Interval} (e : ℕ) → InI A a → InI (e * A) (scaleI e a)
 unfolding scaleI
-in-scale e h = record { order = mul-mono-l {c = pos e} (h .order) (omega zorder); low = within-mul whole (h .low); high = within-mul whole (h .high) }
+in-scale e h = record {
+  order = mul-mono-l {c = pos e} (h .order) (omega zorder);
+  low = within-mul whole (h .low);
+  high = within-mul whole (h .high);
+}
   where
     whole : Within (pos e) e
     whole = record { abs = le-refl e }
@@ -56,8 +70,10 @@ pub in-wide : {A B : ℕ} {a b : Interval} → InI A a → InI B b → InI (A * 
 unfolding wideI
 in-wide h k = record {
   order = least≤greatest _ _ _ _;
-  low = min4-within (within-mul (h .low) (k .low)) (within-mul (h .low) (k .high)) (within-mul (h .high) (k .low)) (within-mul (h .high) (k .high));
-  high = max4-within (within-mul (h .low) (k .low)) (within-mul (h .low) (k .high)) (within-mul (h .high) (k .low)) (within-mul (h .high) (k .high));
+  low = min4-within (within-mul (h .low) (k .low)) (within-mul (h .low) (k .high)) (within-mul (h .high) (k .low))
+      (within-mul (h .high) (k .high));
+  high = max4-within (within-mul (h .low) (k .low)) (within-mul (h .low) (k .high)) (within-mul (h .high) (k .low))
+      (within-mul (h .high) (k .high));
 }
   where
     least≤greatest : (p q r s : ℤ) → min4 p q r s ≤ℤ max4 p q r s
@@ -78,7 +94,8 @@ in-mul C l h k = in-out C l (in-wide h k)
 pub in-sum : (n B : ℕ) (f : ℕ → Interval) → ((i : ℕ) → i < n → InI B (f i)) → InI (n * B) (sumI n f)
 unfolding sumI carry
 in-sum zero B f h = in-zero
-in-sum (suc n) B f h = in-more (omega (arith, suc-mul n B)) (in-add (in-sum n B f (λ i l. h i (omega arith))) (h n (omega arith)))
+in-sum (suc n) B f h =
+    in-more (omega (arith, suc-mul n B)) (in-add (in-sum n B f (λ i l. h i (omega arith))) (h n (omega arith)))
 
 -- the middle of an interval lies in it
 pub in-mid : {B : ℕ} {a : Interval} → InI B a → Within (midI a) B
@@ -101,7 +118,8 @@ small : {z : ℤ} {B : ℕ} → B < 2 ^ 63 → Within z B → SFits w64 z
 small {B = B} l h = fits h (lt→ltb B (2 ^ 63) l)
 
 pub fits-add : {A B : ℕ} {a b : Interval} → A + B < 2 ^ 63 → InI A a → InI B b → FitsAdd a b
-fits-add l h k = record { low = small l (within-add (h .low) (k .low)); high = small l (within-add (h .high) (k .high)) }
+fits-add l h k =
+    record { low = small l (within-add (h .low) (k .low)); high = small l (within-add (h .high) (k .high)) }
 
 pub fits-neg : {A : ℕ} {a : Interval} → A < 2 ^ 63 → InI A a → FitsNeg a
 fits-neg l h = record { low = small l (within-neg (h .low)); high = small l (within-neg (h .high)) }

@@ -1,10 +1,12 @@
-// Intervals of marks: exact sums and products, one outward rounding, and the questions that a step asks of two intervals.
+// Intervals of marks: exact sums and products, one outward rounding, and the questions that a step asks of two
+// intervals.
 ghost use mathlib.Core.Path.{_≡_};
 ghost use Rattle.sizes.specs.Bounds.{upMax};
 ghost use Rattle.integers.specs.Rounding.{floorBy, ceilBy};
 ghost use Rattle.integers.specs.Least.{minℤ, maxℤ, min4, max4};
 ghost use Rattle.integers.specs.Ranges.{Within};
-ghost use Rattle.intervals.specs.Interval.{mark, pointI, addI, negI, scaleI, wideI, outI, mulI, midI, cutI, meetsI, insideI, sameI};
+ghost use Rattle.intervals.specs.Interval.{mark, pointI, addI, negI, scaleI, wideI, outI};
+ghost use Rattle.intervals.specs.Interval.{mulI, midI, cutI, meetsI, insideI, sameI};
 use sizes::MARK;
 ghost use Rattle.intervals.specs.Ranges.{FitsAdd, FitsNeg, FitsScale, FitsMul, FitsAround, FitsTimes, FitsMid};
 
@@ -125,7 +127,8 @@ pub fn mul_point(c: i64, x: Interval) -> Interval
     Interval { lo: lo, hi: hi }
 }
 
-// The exact product with an interval that holds 0: two of the four products can be the least, the other two the greatest.
+// The exact product with an interval that holds 0: two of the four products can be the least, the other two the
+// greatest.
 pub fn mul_around(a: Interval, b: Interval) -> Interval
     requires { ⌜ FitsAround a b ⌝ }
     ensures { λ r. ⌜ r ≡ wideI a b ⌝ }

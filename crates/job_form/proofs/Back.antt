@@ -24,7 +24,7 @@ use Rattle.reading.specs.NumberLines.{placed}
 use Rattle.reading.proofs.Told.{after-after}
 use Rattle.reading.proofs.NumberLines.{count-plain, list-plain}
 use Rattle.reading.proofs.Walk.{Law}
-use Rattle.termround.proofs.ReadBack.{equation-above}
+use Rattle.term_round.proofs.ReadBack.{equation-above}
 use Rattle.lines.specs.Found.{found}
 use Rattle.lines.specs.Texts.{matrixList}
 use Rattle.lines.proofs.Found.{found-fine}

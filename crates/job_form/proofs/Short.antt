@@ -20,8 +20,8 @@ use Rattle.reading.specs.Lines.{bytes}
 use Rattle.reading.specs.NumberLines.{placed}
 use Rattle.reading.specs.Shows.{linesOf, Passed}
 use Rattle.reading.proofs.Walk.{passed-rest}
-use Rattle.termwrite.specs.ShowTerms.{termWidth}
-use Rattle.termwrite.proofs.Terms.{equation-short}
+use Rattle.term_write.specs.ShowTerms.{termWidth}
+use Rattle.term_write.proofs.Terms.{equation-short}
 use Rattle.lines.specs.Texts.{kindText, matrixList}
 use Rattle.jobs.proofs.CheckLaws.{unknowns-fine}
 use Rattle.lines.proofs.Found.{found-fine}

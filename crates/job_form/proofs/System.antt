@@ -23,8 +23,8 @@ use Rattle.jobs.specs.declared.Body.{Body}
 use Rattle.jobs.specs.declared.Job.{Job}
 use Rattle.reading.specs.Got.{Got, after, Told}
 use Rattle.reading.specs.NumberLines.{placed}
-use Rattle.termwrite.specs.ShowTerms.{equationText}
-use Rattle.termround.specs.Live.{liveEquation}
+use Rattle.term_write.specs.ShowTerms.{equationText}
+use Rattle.term_round.specs.Live.{liveEquation}
 use Rattle.lines.specs.Found.{found}
 use Rattle.lines.specs.Lines.{equationOf, rowOf, Sided, liveSided, sidedOf}
 use Rattle.lines.specs.Places.{liveRow, liveRows}

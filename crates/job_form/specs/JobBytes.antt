@@ -13,8 +13,8 @@ use Rattle.text.specs.Words.{jobKey, nKey, loKey, hiKey, stepsKey, rowKey}
 use Rattle.reading.specs.Lines.{bytes}
 use Rattle.reading.specs.NumberLines.{placed}
 use Rattle.reading.specs.Shows.{Shows, shown}
-use Rattle.termwrite.specs.ShowTerms.{equationText}
-use Rattle.termround.specs.Spelled.{SpelledEquation}
+use Rattle.term_write.specs.ShowTerms.{equationText}
+use Rattle.term_round.specs.Spelled.{SpelledEquation}
 use Rattle.jobs.specs.Places.{rowAt, equationAt}
 use Rattle.jobs.specs.Checks.{lineCheck}
 use Rattle.jobs.specs.declared.Kind.{Kind}

@@ -11,7 +11,7 @@ use Rattle.jobs.specs.declared.Body.{Body}
 use Rattle.jobs.specs.declared.Job.{Job}
 use Rattle.jobs.specs.declared.JobLine.{JobLine}
 use Rattle.reading.specs.NumberLines.{placed}
-use Rattle.termround.specs.Live.{liveEquation}
+use Rattle.term_round.specs.Live.{liveEquation}
 use Rattle.lines.specs.Places.{liveRows}
 
 -- the first m lines of a system of n unknowns, by its kind

@@ -80,6 +80,17 @@ module _ (head : Head) where
         fun-ext (λ l. rw (kind, n));
   }
 
+-- a line that adds to the system leads on
+pub line-adds : (t : List ℕ) (head : Head) {A : Type 0} {f : List ℕ → Got Fault A} {add : ℕ → Body → A → Body}
+    → Adds head f add → {a : ℕ} → a ≤ length t → {found : Finding} {next : ℕ} {x : A} {m : ℕ} {st : Status}
+    → Tells (said f t a) (onward t a) found next x → st ≡ onLine found m → (i : ℕ) (j : Job) → j .head ≡ head
+    → m ≡ jobNumber (JobLine.System i) head
+    → Leads jobForm t a (JobLine.System i) j st (afterSystem i (head .n)) (withSystem j (add i (j .system) x)) next
+line-adds t head {f = f} {add = add} adds {a} h {x = x} told is i j p number =
+    line-leads jobForm t (JobLine.System i) j a h refl f
+    (λ x. record { kind = afterSystem i (head .n); value = withSystem j (add i (j .system) x) })
+    (adds .says i j p) told is (number ∙ ap (jobNumber (JobLine.System i)) (sym p))
+
 -- ---- line after line
 
 module _ (t : List ℕ) (from : ℕ) (head : Head) where
@@ -99,37 +110,46 @@ module _ (t : List ℕ) (from : ℕ) (head : Head) where
         };
   }
 
-  module _ {A : Type 0} {f : List ℕ → Got Fault A} {add : ℕ → Body → A → Body} (adds : Adds head f add) {body : Body}
-      {i a : ℕ} (walked : Walked body i a)
-      (more : i < head .n) {found : Finding} {next : ℕ} {x : A} {m : ℕ} {st : Status}
-      (told : Tells (said f t a) (onward t a) found next x) (is : st ≡ onLine found m)
-      (number : m ≡ jobNumber (JobLine.System i) head) where
+  -- one more line is read, after which the lines say `grown`
+  module _ {body grown : Body} {i a : ℕ} (walked : Walked body i a) (more : i < head .n) {next : ℕ} {st : Status}
+      (line : (j : Job) → j .head ≡ head → Leads jobForm t a (JobLine.System i) (withSystem j body) st
+      (afterSystem i (head .n)) (withSystem j grown) next) where
     line-on : (j : Job) → j .head ≡ head → j .system ≡ zeroBody
-        → Leads jobForm t from (JobLine.System 0) j st (systemFrom (i + 1) (head .n))
-        (withSystem j (add i body x)) next
+        → Leads jobForm t from (JobLine.System 0) j st (systemFrom (i + 1) (head .n)) (withSystem j grown) next
     unfolding afterSystem
     line-on j p z =
-        leads-on jobForm t (rw (lt-ltb i (head .n) more) at (walked .leads j p z)) refl
-        (line-leads jobForm t (JobLine.System i) (withSystem j body) a (walked .inside) refl f
-        (λ x. record { kind = afterSystem i (head .n); value = withSystem j (add i body x) })
-        (adds .says i (withSystem j body) p) told is (number ∙ ap (jobNumber (JobLine.System i)) (sym p)))
+        leads-on jobForm t (rw (lt-ltb i (head .n) more) at (walked .leads j p z)) refl (line j p)
 
-    pub walked-more : isBad st ≡ false → Walked (add i body x) (i + 1) next
-    walked-more good = record {
+    pub grown-more : isBad st ≡ false → Walked grown (i + 1) next
+    grown-more good = record {
       inside = leads-inside jobForm t (line-on (withHead noJob head) refl refl);
       leads = λ j p z. done j p z st good (line-on j p z);
     }
       where
         done : (j : Job) → j .head ≡ head → j .system ≡ zeroBody → (s : Status) → isBad s ≡ false
-            → Leads jobForm t from (JobLine.System 0) j s (systemFrom (i + 1) (head .n))
-            (withSystem j (add i body x)) next
+            → Leads jobForm t from (JobLine.System 0) j s (systemFrom (i + 1) (head .n)) (withSystem j grown) next
             → Leads jobForm t from (JobLine.System 0) j Status.Done (systemFrom (i + 1) (head .n))
-            (withSystem j (add i body x)) next
+            (withSystem j grown) next
         done j p z Status.Done e w = w
         done j p z (Status.Refused g n) e w = absurd (true≢false e)
 
+    pub grown-bad : {r : SystemAt} → isBad st ≡ true → (r .status ≡ st) × (r .next ≡ 0) → SystemFrom t from head r
+    grown-bad bad e = record { leads = λ j p z. leads-stop jobForm t (line-on j p z) JobLine.End _ bad e }
+
+  module _ {A : Type 0} {f : List ℕ → Got Fault A} {add : ℕ → Body → A → Body} (adds : Adds head f add) {body : Body}
+      {i a : ℕ} (walked : Walked body i a)
+      (more : i < head .n) {found : Finding} {next : ℕ} {x : A} {m : ℕ} {st : Status}
+      (told : Tells (said f t a) (onward t a) found next x) (is : st ≡ onLine found m)
+      (number : m ≡ jobNumber (JobLine.System i) head) where
+    line : (j : Job) → j .head ≡ head → Leads jobForm t a (JobLine.System i) (withSystem j body) st
+        (afterSystem i (head .n)) (withSystem j (add i body x)) next
+    line j p = line-adds t head adds (walked .inside) told is i (withSystem j body) p number
+
+    pub walked-more : isBad st ≡ false → Walked (add i body x) (i + 1) next
+    walked-more = grown-more walked more line
+
     pub walked-bad : {r : SystemAt} → isBad st ≡ true → (r .status ≡ st) × (r .next ≡ 0) → SystemFrom t from head r
-    walked-bad bad e = record { leads = λ j p z. leads-stop jobForm t (line-on j p z) JobLine.End _ bad e }
+    walked-bad = grown-bad walked more line
 
   pub walked-done : {body : Body} {i a : ℕ} → Walked body i a → head .n ≤ i
       → SystemFrom t from head (record { status = Status.Done; system = body; next = a })

@@ -5,18 +5,22 @@ use mathlib.Core.Bool.{false}
 use mathlib.Core.List.{List}
 use Rattle.sizes.specs.Sizes.{nMax}
 use Rattle.faults.specs.declared.Status.{Status}
-use Rattle.faults.specs.Checks.{isBad}
+use Rattle.faults.specs.Checks.{isBad, onLine}
+use Rattle.jobs.specs.declared.Body.{Body}
 use Rattle.jobs.specs.declared.Head.{Head}
 use Rattle.jobs.specs.declared.Job.{Job}
 use Rattle.jobs.specs.declared.JobLine.{JobLine}
+use Rattle.jobs.specs.Lines.{jobNumber}
 use Rattle.jobs.specs.Zero.{zeroBody, noJob}
 use Rattle.jobs.specs.Parts.{withHead, withEnds, withInverse, withSteps, withSystem}
 use Rattle.line_read.specs.States.{Leads}
 use Rattle.job_form.specs.declared.JobRead.{JobRead}
-use Rattle.job_form.specs.JobForm.{jobForm}
+use Rattle.job_form.specs.JobForm.{jobForm, afterSystem}
 use Rattle.job_read.specs.declared.HeadAt.{HeadAt}
 use Rattle.job_read.specs.declared.BoxAt.{BoxAt}
 use Rattle.job_read.specs.declared.SystemAt.{SystemAt}
+use Rattle.job_read.specs.declared.LineEnd.{LineEnd}
+use Rattle.job_read.specs.declared.SystemEnd.{SystemEnd}
 
 -- "n: 1 to 4"
 pub record Whole (head : Head) : Type 0 where
@@ -39,6 +43,18 @@ pub record BoxFrom (t : List ℕ) (a : ℕ) (head : Head) (r : BoxAt) : Type 0 w
 pub record SystemFrom (t : List ℕ) (a : ℕ) (head : Head) (r : SystemAt) : Type 0 where
   pub leads : (j : Job) → j .head ≡ head → j .system ≡ zeroBody
       → Leads jobForm t a (JobLine.System 0) j (r .status) JobLine.End (withSystem j (r .system)) (r .next)
+
+-- a line of the system, as line i, adds something to it
+pub record LineFrom (t : List ℕ) (a : ℕ) (head : Head) (r : LineEnd) : Type 0 where
+  pub add : ℕ → Body → Body
+  pub leads : (i : ℕ) (j : Job) → j .head ≡ head → (m : ℕ) → m ≡ jobNumber (JobLine.System i) head
+      → Leads jobForm t a (JobLine.System i) j (onLine (r .found) m) (afterSystem i (head .n))
+      (withSystem j (add i (j .system))) (r .next)
+
+-- all of them, whatever the system is that they say
+pub record SystemEnds (t : List ℕ) (a : ℕ) (head : Head) (r : SystemEnd) : Type 0 where
+  pub system : Body
+  pub from : SystemFrom t a head (record { status = r .status; system = system; next = r .next })
 
 abbrev pub refusedWith : Status → JobRead
 refusedWith st = record { status = st; job = noJob }

@@ -1,11 +1,14 @@
 // The reader of a job text, line after line from where each begins. The parts of the job are put together once.
-mod first;
+mod ends;
+pub mod first;
 mod system;
 
 ghost use mathlib.Core.Path.{_≡_};
 ghost use Rattle.job_form.specs.JobForm.{readJob};
 ghost use Rattle.job_read.specs.Parts.{refusedWith};
+use ends::system_end;
 use faults::Fault;
+use faults::Finding;
 use faults::Status;
 use faults::is_bad;
 use first::box_at;
@@ -24,10 +27,10 @@ use sizes::TEXT;
 use system::system_at;
 
 // What some lines say, and where the next line begins. Beside a fault the rest is any.
-struct HeadAt {
-    status: Status,
-    head: Head,
-    next: usize,
+pub struct HeadAt {
+    pub status: Status,
+    pub head: Head,
+    pub next: usize,
 }
 
 struct BoxAt {
@@ -41,6 +44,17 @@ struct BoxAt {
 struct SystemAt {
     status: Status,
     system: Body,
+    next: usize,
+}
+
+// The same where what the lines say is not kept.
+struct LineEnd {
+    found: Finding,
+    next: usize,
+}
+
+struct SystemEnd {
+    status: Status,
     next: usize,
 }
 
@@ -92,4 +106,33 @@ pub fn read_job(text: &[u8]) -> JobRead
             system,
         },
     }
+}
+
+// The status of the whole text: no system is kept and no job put together.
+pub fn read_status(text: &[u8]) -> Status
+    ensures { λ r. ⌜ r ≡ readJob (now (text .entry)) .status ⌝ }
+{
+    if TEXT < text.len() {
+        return Status::Refused(Fault::LongText, 0);
+    }
+    let h = head_at(text);
+    let told = h.status;
+    if is_bad(told) {
+        return told;
+    }
+    let head = h.head;
+    let b = box_at(text, h.next, head);
+    let boxed = b.status;
+    if is_bad(boxed) {
+        return boxed;
+    }
+    let s = system_end(text, b.next, head);
+    let solved = s.status;
+    if is_bad(solved) {
+        return solved;
+    }
+    if s.next < text.len() {
+        return Status::Refused(Fault::Spelling, job_line_number(JobLine::End, head));
+    }
+    Status::Done
 }

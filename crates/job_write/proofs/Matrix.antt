@@ -14,8 +14,8 @@ use Rattle.text.specs.Lists.{placesMax, joined, showList}
 use Rattle.text.specs.Words.{rowKey}
 use Rattle.reading.specs.NumberLines.{placed}
 use Rattle.writing.proofs.Lists.{taken-first}
-use Rattle.termwrite.specs.ShowTerms.{commaBefore}
-use Rattle.termwrite.proofs.Joined.{joined-snoc}
+use Rattle.term_write.specs.ShowTerms.{commaBefore}
+use Rattle.term_write.proofs.Joined.{joined-snoc}
 use Rattle.jobs.specs.declared.Row.{Row}
 use Rattle.lines.specs.Texts.{entryOf, matrixList, sidedText}
 use Rattle.lines.proofs.Rows.{square-fits, matrix-long}

@@ -5,7 +5,7 @@ ghost use Rattle.job_write.specs.Parts.{linesBytes, PartFits, LineFits};
 use crate::rows::put_sided_line;
 use jobs::Job;
 use jobs::Kind;
-use termwrite::put_equation_line;
+use term_write::put_equation_line;
 use writing::put_row_line;
 
 fn put_system_line(buf: &mut [u8], at: usize, j: Job, i: usize) -> usize

@@ -23,7 +23,8 @@ use Rattle.jobs.specs.Checks.{numberCheck, unknownsCheck, lowCheck, high
 use Rattle.jobs.specs.Checks.{equationCheck, rowCheck, sidedCheck, systemCheck, lineCheck}
 use Rattle.jobs.specs.Checks.{jobLineStatus, systemLines, headLines, bodyLines, checkJob}
 use Rattle.jobs.specs.Accepted.{Falls, GoodEquation, GoodSystem, Accepted}
-use Rattle.jobs.proofs.RangeLaws.{and-left, and-right, each-all, is-within, within-is, all-within, within-all, all-ordered, ordered-all}
+use Rattle.jobs.proofs.RangeLaws.{and-left, and-right, each-all, is-within, within-is}
+use Rattle.jobs.proofs.RangeLaws.{all-within, within-all, all-ordered, ordered-all}
 use Rattle.jobs.proofs.TermLaws.{falls-lower, abs-zero}
 use Rattle.faults.proofs.Laws.{fine-first, fine-next, both-fine, unless-fine, fine-unless, fine-line, line-fine}
 use Rattle.faults.proofs.Laws.{done-first, done-next, both-done, lines-each, each-lines}
@@ -52,7 +53,8 @@ falls-order t u (suc n) e = by (falls t u n) refl (falls-order t u n)
 order-falls : {t u : Term} {n : ℕ} → Falls t u n → falls t u n ≡ true
 unfolding alike
 order-falls {t} {u} {n} f =
-    falls-lower t u n (f .place) (f .live) (each-all _ (f .place) (λ k l. eq-eqb (expOf t k) (expOf u k) (f .same k l))) (f .higher)
+    falls-lower t u n (f .place) (f .live)
+    (each-all _ (f .place) (λ k l. eq-eqb (expOf t k) (expOf u k) (f .same k l))) (f .higher)
 
 next-order : (q : Equation) (n k : ℕ) → inOrder q n (k + 1) ≡ falls (termAt q k) (termAt q (k + 1)) n
 unfolding inOrder
@@ -66,9 +68,12 @@ module _ (q : Equation) (n : ℕ) where
       record {
         few = few;
         size = λ k l. is-within _ entryMax (all-each _ (min (q .count) termsMax) k (omega (arith, few)) s);
-        nonzero = λ k l z. eqb-false (natAbs (termAt q k .coef)) 0 (not-true _ (and-left (not (eqb (natAbs (termAt q k .coef)) 0)) _ (term k l))) (ap natAbs z);
-        deg = λ k l. leb-true (degree n (expOf (termAt q k))) degreeMax (and-right (not (eqb (natAbs (termAt q k .coef)) 0)) _ (term k l));
-        order = λ k l. falls-order _ _ n (sym (next-order q n k) ∙ and-right (goodTerm (termAt q (k + 1)) n) _ (place (k + 1) l));
+        nonzero = λ k l z. eqb-false (natAbs (termAt q k .coef)) 0
+            (not-true _ (and-left (not (eqb (natAbs (termAt q k .coef)) 0)) _ (term k l))) (ap natAbs z);
+        deg = λ k l. leb-true (degree n (expOf (termAt q k))) degreeMax
+            (and-right (not (eqb (natAbs (termAt q k .coef)) 0)) _ (term k l));
+        order = λ k l.
+            falls-order _ _ n (sym (next-order q n k) ∙ and-right (goodTerm (termAt q (k + 1)) n) _ (place (k + 1) l));
       }
     where
       few : q .count ≤ termsMax
@@ -77,7 +82,8 @@ module _ (q : Equation) (n : ℕ) where
       place : (k : ℕ) → k < q .count → goodTerm (termAt q k) n && inOrder q n k ≡ true
       place k l = all-each (goodPlace q n) (q .count) k l (and-right (leb (q .count) termsMax) _ e)
 
-      term : (k : ℕ) → k < q .count → not (eqb (natAbs (termAt q k .coef)) 0) && leb (degree n (expOf (termAt q k))) degreeMax ≡ true
+      term : (k : ℕ) → k < q .count
+          → not (eqb (natAbs (termAt q k .coef)) 0) && leb (degree n (expOf (termAt q k))) degreeMax ≡ true
       term k l = and-left (goodTerm (termAt q k) n) _ (place k l)
 
   good-coefs : GoodEquation q n → goodCoefs q ≡ true
@@ -101,7 +107,8 @@ module _ (q : Equation) (n : ℕ) where
 system-good : (kind : Kind) (j : Job) (i : ℕ) → systemCheck kind j i ≡ Finding.Fine → GoodSystem kind j i
 unfolding systemCheck equationCheck rowCheck sidedCheck
 system-good Kind.Poly j i e =
-    equation-good _ (j .head .n) (unless-fine _ Fault.Beyond (fine-first _ _ e)) (unless-fine _ Fault.Terms (fine-next _ _ e))
+    equation-good _ (j .head .n) (unless-fine _ Fault.Beyond (fine-first _ _ e))
+    (unless-fine _ Fault.Terms (fine-next _ _ e))
 system-good Kind.Linear j i e = (
   all-within _ (j .head .n) entryMax (unless-fine _ Fault.Beyond (fine-first _ _ e)),
   is-within _ entryMax (unless-fine _ Fault.Beyond (fine-next _ _ e)),
@@ -110,9 +117,11 @@ system-good Kind.Eigen j i e = all-within _ (j .head .n) entryMax (unless-fine _
 
 good-system : (kind : Kind) (j : Job) (i : ℕ) → GoodSystem kind j i → systemCheck kind j i ≡ Finding.Fine
 unfolding systemCheck equationCheck rowCheck sidedCheck
-good-system Kind.Poly j i g = both-fine (fine-unless Fault.Beyond (good-coefs _ (j .head .n) g)) (fine-unless Fault.Terms (good-terms _ (j .head .n) g))
+good-system Kind.Poly j i g = both-fine (fine-unless Fault.Beyond (good-coefs _ (j .head .n) g))
+    (fine-unless Fault.Terms (good-terms _ (j .head .n) g))
 good-system Kind.Linear j i g =
-    both-fine (fine-unless Fault.Beyond (within-all _ (j .head .n) entryMax (g .0))) (fine-unless Fault.Beyond (within-is (g .1)))
+    both-fine (fine-unless Fault.Beyond (within-all _ (j .head .n) entryMax (g .0)))
+    (fine-unless Fault.Beyond (within-is (g .1)))
 good-system Kind.Eigen j i g = fine-unless Fault.Beyond (within-all _ (j .head .n) entryMax g)
 
 -- ---- line after line
@@ -167,8 +176,10 @@ check-done j e =
       few = n .1;
       low = all-within (j .ends .lo) (j .head .n) endMax (unless-fine _ Fault.Beyond (c .low));
       high = all-within (j .ends .hi) (j .head .n) endMax (unless-fine _ Fault.Beyond (fine-first _ _ (c .high)));
-      ordered = all-ordered (j .ends .lo) (j .ends .hi) (j .head .n) (unless-fine _ Fault.Crossed (fine-next _ _ (c .high)));
-      inverse = λ i l. all-within (rowAt (j .inv) i) (j .head .n) entryMax (all-each _ (j .head .n) i l (unless-fine _ Fault.Beyond (c .inverse)));
+      ordered =
+          all-ordered (j .ends .lo) (j .ends .hi) (j .head .n) (unless-fine _ Fault.Crossed (fine-next _ _ (c .high)));
+      inverse = λ i l. all-within (rowAt (j .inv) i) (j .head .n) entryMax
+          (all-each _ (j .head .n) i l (unless-fine _ Fault.Beyond (c .inverse)));
       steps = leb-true (j .steps) stepsMax (unless-fine _ Fault.Steps (c .steps));
       system = λ i l. system-good (j .head .kind) j i (c .system i l);
     }
@@ -182,7 +193,8 @@ done-check j a = clean-check j (record {
   low = fine-unless Fault.Beyond (within-all (j .ends .lo) (j .head .n) endMax (a .low));
   high = both-fine (fine-unless Fault.Beyond (within-all (j .ends .hi) (j .head .n) endMax (a .high)))
       (fine-unless Fault.Crossed (ordered-all (j .ends .lo) (j .ends .hi) (j .head .n) (a .ordered)));
-  inverse = fine-unless Fault.Beyond (each-all _ (j .head .n) (λ i l. within-all (rowAt (j .inv) i) (j .head .n) entryMax (a .inverse i l)));
+  inverse = fine-unless Fault.Beyond
+      (each-all _ (j .head .n) (λ i l. within-all (rowAt (j .inv) i) (j .head .n) entryMax (a .inverse i l)));
   steps = fine-unless Fault.Steps (le-leb (j .steps) stepsMax (a .steps));
   system = λ i l. good-system (j .head .kind) j i (a .system i l);
 })

@@ -20,5 +20,7 @@ unknowns-fine n e =
 
 pub count-fine : (n : ℕ) → countCheck n ≡ Finding.Fine → (1 ≤ n) × (n ≤ nMax)
 unfolding countCheck
-count-fine n e =
-    (leb-true 1 n (unless-fine _ Fault.Spelling (fine-first _ _ e)), leb-true n nMax (unless-fine _ Fault.Unknowns (fine-next _ _ e)))
+count-fine n e = (
+  leb-true 1 n (unless-fine _ Fault.Spelling (fine-first _ _ e)),
+  leb-true n nMax (unless-fine _ Fault.Unknowns (fine-next _ _ e)),
+)

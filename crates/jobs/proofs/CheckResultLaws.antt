@@ -48,6 +48,7 @@ unfaulted r s =
     (both-done (line-fine _ refl)
     (both-done (line-fine _ (fine-unless Fault.Steps (le-leb (r .steps) stepsMax (s .steps))))
     (both-done (line-fine _ (both-fine
-    (both-fine (fine-unless Fault.Spelling (le-leb 1 (r .n) (s .some))) (fine-unless Fault.Unknowns (le-leb (r .n) nMax (s .few))))
+    (both-fine (fine-unless Fault.Spelling (le-leb 1 (r .n) (s .some)))
+    (fine-unless Fault.Unknowns (le-leb (r .n) nMax (s .few))))
     (fine-unless Fault.Beyond (s .low))))
     (line-fine _ (both-fine (fine-unless Fault.Beyond (s .high)) (fine-unless Fault.Crossed (s .ordered)))))))

@@ -32,7 +32,8 @@ each-all p (suc n) h = rw (each-all p n (λ i l. h i (omega arith)), h n (omega 
 
 pub is-within : (z : ℤ) (B : ℕ) → isWithin z (pos B) ≡ true → Within z B
 unfolding isWithin
-is-within z B e = within z B (leZ-true _ _ (and-left (leZ (negℤ (pos B)) z) _ e)) (leZ-true _ _ (and-right (leZ (negℤ (pos B)) z) _ e))
+is-within z B e = within z B (leZ-true _ _ (and-left (leZ (negℤ (pos B)) z) _ e))
+    (leZ-true _ _ (and-right (leZ (negℤ (pos B)) z) _ e))
 
 pub within-is : {z : ℤ} {B : ℕ} → Within z B → isWithin z (pos B) ≡ true
 unfolding isWithin

@@ -31,7 +31,8 @@ module _ (t u : Term) where
   falls-same zero e = refl
   falls-same (suc n) e =
       rw (falls-same n (alike-fewer (omega arith) e), alike-fewer {m = n} (omega arith) e)
-      (le-ltb (expOf u n) (expOf t n) (omega (arith, eqb-true (expOf t n) (expOf u n) (all-each _ (suc n) n (omega arith) e))))
+      (le-ltb (expOf u n) (expOf t n)
+      (omega (arith, eqb-true (expOf t n) (expOf u n) (all-each _ (suc n) n (omega arith) e))))
 
   -- the first place where they differ decides
   pub falls-lower : (n k : ℕ) → k < n → alike t u k ≡ true → expOf u k < expOf t k → falls t u n ≡ true
@@ -45,7 +46,8 @@ module _ (t u : Term) where
   pub falls-higher : (n k : ℕ) → k < n → alike t u k ≡ true → expOf t k < expOf u k → falls t u n ≡ false
   unfolding falls alike
   falls-higher zero k l e h = absurd (not-suc-le-zero l)
-  falls-higher (suc n) k l e h = ⊎-elim here (λ lt. later lt (falls-higher n k lt e h)) (eq-or-lt-of-le (le-of-suc-le-suc l))
+  falls-higher (suc n) k l e h =
+      ⊎-elim here (λ lt. later lt (falls-higher n k lt e h)) (eq-or-lt-of-le (le-of-suc-le-suc l))
     where
       here : k ≡ n → falls t u n || (alike t u n && ltb (expOf u n) (expOf t n)) ≡ false
       here q = rw (← q, falls-same k e, e) (le-ltb (expOf u k) (expOf t k) (omega arith))

@@ -1,4 +1,5 @@
--- What an accepted job has, in the words of document 01, "Numbers and sizes". Places past n, and terms past the count, have nothing to meet.
+-- What an accepted job has, in the words of document 01, "Numbers and sizes". Places past n, and terms past the count,
+-- have nothing to meet.
 use mathlib.Core.Path.{_≡_}
 use mathlib.Core.List.{List}
 use Prim.Native.Nat.{ℕ, _+_, _<_, _≤_}
@@ -18,7 +19,8 @@ use Rattle.jobs.specs.Terms.{degree}
 abbrev pub AllWithin : List ℤ → ℕ → ℕ → Type 0
 AllWithin xs n most = (i : ℕ) → i < n → Within (getD xs i (pos 0)) most
 
--- "strictly falling order of their exponent digits": t stands before u, for they differ first at an unknown where t's digit is higher
+-- "strictly falling order of their exponent digits": t stands before u, for they differ first at an unknown where t's
+-- digit is higher
 pub record Falls (t u : Term) (n : ℕ) : Type 0 where
   pub place : ℕ
   pub live : place < n
@@ -36,7 +38,8 @@ pub record GoodEquation (q : Equation) (n : ℕ) : Type 0 where
 -- equation or row i of the system, with its right side
 abbrev pub GoodSystem : Kind → Job → ℕ → Type 0
 GoodSystem Kind.Poly j i = GoodEquation (equationAt (j .system .eqs) i) (j .head .n)
-GoodSystem Kind.Linear j i = AllWithin (rowAt (j .system .rows) i) (j .head .n) entryMax × Within (getD (j .system .right) i (pos 0)) entryMax
+GoodSystem Kind.Linear j i =
+    AllWithin (rowAt (j .system .rows) i) (j .head .n) entryMax × Within (getD (j .system .right) i (pos 0)) entryMax
 GoodSystem Kind.Eigen j i = AllWithin (rowAt (j .system .rows) i) (j .head .n) entryMax
 
 pub record Accepted (j : Job) : Type 0 where

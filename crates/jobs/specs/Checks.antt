@@ -1,5 +1,6 @@
--- The checks of a job's values. Document 01: "lines are taken in order and the first bad line decides; in one line 2 comes before the others,
--- then 3, then 4, then 5 or 6", and "values handed over without text get the same checks in the same line order".
+-- The checks of a job's values. Document 01: "lines are taken in order and the first bad line decides; in one line 2
+-- comes before the others, then 3, then 4, then 5 or 6", and "values handed over without text get the same checks in
+-- the same line order".
 -- Each kind of line has its check, over values; the text's reader has the same.
 use Prim.Native.Nat.{ℕ}
 use mathlib.Core.Bool.{Bool, _&&_}
@@ -98,7 +99,8 @@ jobLineStatus k j = onLine (lineCheck k j) (jobNumber k (j .head))
 
 -- "Order: job, kind, n"
 unfoldable pub headLines : Job → Status
-headLines j = andThen (jobLineStatus JobLine.Number j) (andThen (jobLineStatus JobLine.Kind j) (jobLineStatus JobLine.Unknowns j))
+headLines j =
+    andThen (jobLineStatus JobLine.Number j) (andThen (jobLineStatus JobLine.Kind j) (jobLineStatus JobLine.Unknowns j))
 
 -- "then n lines"
 unfoldable pub systemLines : Job → Status

@@ -1,5 +1,7 @@
--- The number of each line: the one place that says it. A job's takes the head, for a line that only some jobs have moves those after it.
-use Prim.Native.Nat.{ℕ, _+_}
+-- The number of each line: the one place that says it. A job's takes the head, for a line that only some jobs have
+-- moves those after it.
+use Prim.Native.Nat.{ℕ, _+_, _≤_, _<_}
+use mathlib.Core.Path.{_≡_}
 use Rattle.jobs.specs.declared.Head.{Head}
 use Rattle.jobs.specs.declared.JobLine.{JobLine}
 use Rattle.jobs.specs.declared.ResultLine.{ResultLine}
@@ -31,3 +33,10 @@ resultNumber ResultLine.Steps = 3
 resultNumber ResultLine.Lo = 4
 resultNumber ResultLine.Hi = 5
 resultNumber ResultLine.End = 6
+
+-- back from a number to its line: the number of `line` is k, if any line of that head has it
+abbrev pub JobNumbered : ℕ → Head → JobLine → Type 0
+JobNumbered k h line = 0 < k → k ≤ jobNumber JobLine.End h → jobNumber line h ≡ k
+
+abbrev pub ResultNumbered : ℕ → ResultLine → Type 0
+ResultNumbered k line = 0 < k → k ≤ resultNumber ResultLine.End → resultNumber line ≡ k

@@ -46,11 +46,14 @@ abbrev pub withHi : Job → List ℤ → Job
 withHi j xs = withEnds j (record { lo = j .ends .lo; hi = xs })
 
 abbrev pub withEquation : Job → ℕ → Equation → Job
-withEquation j i q = withSystem j (record { eqs = set (j .system .eqs) i q; rows = j .system .rows; right = j .system .right })
+withEquation j i q =
+    withSystem j (record { eqs = set (j .system .eqs) i q; rows = j .system .rows; right = j .system .right })
 
 abbrev pub withRow : Job → ℕ → List ℤ → Job
 withRow j i xs =
-    withSystem j (record { eqs = j .system .eqs; rows = set (j .system .rows) i (record { at = xs }); right = j .system .right })
+    withSystem j
+    (record { eqs = j .system .eqs; rows = set (j .system .rows) i (record { at = xs }); right = j .system .right })
 
 abbrev pub withSide : Job → ℕ → ℤ → Job
-withSide j i z = withSystem j (record { eqs = j .system .eqs; rows = j .system .rows; right = set (j .system .right) i z })
+withSide j i z =
+    withSystem j (record { eqs = j .system .eqs; rows = j .system .rows; right = set (j .system .right) i z })

@@ -1,4 +1,5 @@
--- What an equation's terms must be: document 01, "Numbers and sizes" and fault 6. Each test is over values and serves a text's reader too.
+-- What an equation's terms must be: document 01, "Numbers and sizes" and fault 6. Each test is over values and serves a
+-- text's reader too.
 use Prim.Native.Nat.{ℕ, zero, suc, _+_, min}
 use mathlib.Core.Bool.{Bool, true, false, not, _&&_, _||_}
 use lib.Dec.{eqb, leb, ltb}
@@ -18,7 +19,8 @@ degree n e = carry n 0 (λ k d. d + e k)
 unfoldable pub alike : Term → Term → ℕ → Bool
 alike t u n = allB n (λ k. eqb (expOf t k) (expOf u k))
 
--- "terms stand in strictly falling order of their exponent digits", t before u: at the first unknown where they differ, t's digit is higher
+-- "terms stand in strictly falling order of their exponent digits", t before u: at the first unknown where they differ,
+-- t's digit is higher
 unfoldable pub falls : Term → Term → ℕ → Bool
 falls t u zero = false
 falls t u (suc n) = falls t u n || (alike t u n && ltb (expOf u n) (expOf t n))

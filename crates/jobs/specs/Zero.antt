@@ -35,4 +35,11 @@ abbrev pub noJob : Job
 noJob = record { head = zeroHead; ends = zeroEnds; inv = replicate nMax zeroRow; steps = 0; system = zeroBody }
 
 abbrev pub noResult : Result
-noResult = record { number = 0; verdict = Verdict.None; steps = 0; n = 0; lo = replicate nMax (pos 0); hi = replicate nMax (pos 0) }
+noResult = record {
+  number = 0;
+  verdict = Verdict.None;
+  steps = 0;
+  n = 0;
+  lo = replicate nMax (pos 0);
+  hi = replicate nMax (pos 0);
+}

@@ -1,4 +1,5 @@
-// The checks of a result's values, in the order of its text's lines. "Values handed over without text get the same checks in the same line order."
+// The checks of a result's values, in the order of its text's lines. "Values handed over without text get the same
+// checks in the same line order."
 use crate::Result;
 use crate::ResultLine;
 use crate::checks::high_check;

@@ -1,4 +1,5 @@
-// The values that the solver takes and gives: a job, a result. Places past n play no part on the way in and are zero on the way out.
+// The values that the solver takes and gives: a job, a result. Places past n play no part on the way in and are zero on
+// the way out.
 pub mod check_result;
 pub mod checks;
 pub mod lines;
@@ -61,7 +62,8 @@ pub struct Job {
     pub system: Body,
 }
 
-// The kinds of lines of a job text, in their order; a line of the system with its place, from 0; End where no line is left.
+// The kinds of lines of a job text, in their order; a line of the system with its place, from 0; End where no line is
+// left.
 pub enum JobLine {
     Number,
     Kind,

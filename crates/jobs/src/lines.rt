@@ -4,8 +4,9 @@ use crate::JobLine;
 use crate::ResultLine;
 ghost use mathlib.Core.Path.{_≡_};
 ghost use Prim.Native.Nat.{_≤_};
-ghost use Rattle.sizes.specs.Sizes.{textMax};
+ghost use Rattle.sizes.specs.Sizes.{nMax, textMax};
 ghost use Rattle.jobs.specs.Lines.{stepsNumber, systemNumber, jobNumber, resultNumber};
+ghost use Rattle.jobs.specs.Lines.{JobNumbered, ResultNumbered};
 
 pub fn steps_number(head: Head) -> u64
     ensures { λ r. ⌜ r ≡ stepsNumber head ⌝ }
@@ -49,4 +50,60 @@ pub fn result_line_number(k: ResultLine) -> u64
         ResultLine::Hi => 5,
         ResultLine::End => 6,
     }
+}
+
+// The line of a job text that has this number: the first whose number is not below it.
+pub fn job_line_of(line: u64, head: Head) -> JobLine
+    requires { ⌜ head .n ≤ nMax ⌝ }
+    ensures { λ r. ⌜ JobNumbered line head r ⌝ }
+{
+    if line <= job_line_number(JobLine::Number, head) {
+        return JobLine::Number;
+    }
+    if line <= job_line_number(JobLine::Kind, head) {
+        return JobLine::Kind;
+    }
+    if line <= job_line_number(JobLine::Unknowns, head) {
+        return JobLine::Unknowns;
+    }
+    if line <= job_line_number(JobLine::Lo, head) {
+        return JobLine::Lo;
+    }
+    if line <= job_line_number(JobLine::Hi, head) {
+        return JobLine::Hi;
+    }
+    if line <= job_line_number(JobLine::Inv, head) {
+        return JobLine::Inv;
+    }
+    if line <= job_line_number(JobLine::Steps, head) {
+        return JobLine::Steps;
+    }
+    for i in 0..head.n {
+        if line <= job_line_number(JobLine::System(i), head) {
+            return JobLine::System(i);
+        }
+    }
+    JobLine::End
+}
+
+// The same of a result text.
+pub fn result_line_of(line: u64) -> ResultLine
+    ensures { λ r. ⌜ ResultNumbered line r ⌝ }
+{
+    if line <= result_line_number(ResultLine::Number) {
+        return ResultLine::Number;
+    }
+    if line <= result_line_number(ResultLine::Verdict) {
+        return ResultLine::Verdict;
+    }
+    if line <= result_line_number(ResultLine::Steps) {
+        return ResultLine::Steps;
+    }
+    if line <= result_line_number(ResultLine::Lo) {
+        return ResultLine::Lo;
+    }
+    if line <= result_line_number(ResultLine::Hi) {
+        return ResultLine::Hi;
+    }
+    ResultLine::End
 }

@@ -10,13 +10,13 @@ use Rattle.faults.specs.declared.Finding.{Finding}
 use Rattle.faults.specs.Checks.{badUnless, firstOf}
 use Rattle.digits.specs.Bytes.{digit0}
 use Rattle.text.specs.Keys.{bodyOf}
-use Rattle.termtext.specs.Terms.{oneDigit}
+use Rattle.term_text.specs.Terms.{oneDigit}
 use Rattle.reading.specs.Got.{Got, after, passing, refuse}
 use Rattle.reading.specs.Places.{lineEnd, lineAt}
 use Rattle.reading.proofs.Told.{fault-got}
 use Rattle.scan.specs.Lines.{lineOf, endedAnd}
-use Rattle.scan_terms.specs.declared.DigitAt.{DigitAt}
-use Rattle.scan_terms.specs.Lines.{digitOf, DigitFrom}
+use Rattle.term_read.specs.declared.DigitAt.{DigitAt}
+use Rattle.term_read.specs.Lines.{digitOf, DigitFrom}
 use Rattle.lines.specs.Found.{found}
 use Rattle.lines.specs.Lines.{misspelled, digitIs}
 use Rattle.line_read.specs.At.{said, onward}

@@ -8,9 +8,9 @@ use faults::first_of;
 use jobs::checks::unknowns_check;
 use scan::CountAt;
 use scan::lines::count_at;
-use scan_terms::digit_at;
 use sizes::NUMBER;
 use sizes::STEPS;
+use term_read::digit_at;
 use text::Count;
 ghost use mathlib.Core.Path.{_≡_};
 ghost use mathlib.Core.Bool.{true};
@@ -34,7 +34,7 @@ fn no_count(f: Fault) -> CountLine
     }
 }
 
-fn counted(c: CountAt, out: Fault) -> CountLine
+fn judged_count(c: CountAt, out: Fault) -> CountLine
     ensures { λ r. ⌜ r ≡ countAt (counted Fault.Spelling out (c .count)) (c .next) ⌝ }
 {
     let count = c.count;
@@ -55,7 +55,7 @@ fn count_line(text: &[u8], from: usize, key: &[u8], most: u64, out: Fault) -> Co
     ensures { λ r. ⌜ r ≡ countAt (said (countLine Fault.Spelling out (now (key .entry)) most) (now (text .entry)) from)
         (onward (now (text .entry)) from) ⌝ }
 {
-    counted(count_at(text, from, key, most), out)
+    judged_count(count_at(text, from, key, most), out)
 }
 
 pub fn number_line(text: &[u8], from: usize) -> CountLine

@@ -17,16 +17,16 @@ use Rattle.faults.proofs.Laws.{fine-first, fine-next, unless-fine}
 use Rattle.jobs.specs.Places.{expOf, termAt}
 use Rattle.jobs.specs.Terms.{degree, goodTerm, goodPlace, goodCoefs, goodTerms}
 use Rattle.jobs.proofs.RangeLaws.{is-within}
-use Rattle.termwrite.proofs.Terms.{digit-low}
+use Rattle.term_write.proofs.Terms.{digit-low}
 use Rattle.jobs.specs.Checks.{equationCheck}
 use Rattle.jobs.specs.declared.Equation.{Equation}
-use Rattle.termtext.specs.Terms.{readEquation}
-use Rattle.termwrite.specs.ShowTerms.{equationText}
-use Rattle.termround.specs.Live.{liveEquation}
-use Rattle.termround.specs.Spelled.{SpelledEquation}
-use Rattle.termround.proofs.ReadBack.{equation-read}
-use Rattle.termround.proofs.WriteBack.{equation-was}
-use Rattle.termround.proofs.LiveTerms.{terms-live, coefs-live}
+use Rattle.term_text.specs.Terms.{readEquation}
+use Rattle.term_write.specs.ShowTerms.{equationText}
+use Rattle.term_round.specs.Live.{liveEquation}
+use Rattle.term_round.specs.Spelled.{SpelledEquation}
+use Rattle.term_round.proofs.ReadBack.{equation-read}
+use Rattle.term_round.proofs.WriteBack.{equation-was}
+use Rattle.term_round.proofs.LiveTerms.{terms-live, coefs-live}
 use Rattle.reading.specs.Got.{Got, after, passing, refuse, Told}
 use Rattle.reading.proofs.Told.{not-false, told-got, told-map, told-unless, told-passing}
 use Rattle.lines.specs.Found.{found}

@@ -13,7 +13,7 @@ use Rattle.faults.specs.declared.Finding.{Finding}
 use Rattle.text.specs.Keys.{bodyOf, sameBytes}
 use Rattle.text.specs.Lists.{placesMax}
 use Rattle.text.specs.Words.{jobKey, nKey, loKey, hiKey, invKey, stepsKey, rowKey}
-use Rattle.termtext.specs.Terms.{oneDigit, readEquation}
+use Rattle.term_text.specs.Terms.{oneDigit, readEquation}
 use Rattle.jobs.specs.Checks.{unknownsCheck, lowCheck, highCheck, inverseCheck, equationCheck, rowCheck, sidedCheck}
 use Rattle.jobs.specs.CheckResult.{countCheck, countedCheck}
 use Rattle.jobs.specs.declared.Kind.{Kind}

@@ -10,7 +10,7 @@ use Rattle.sizes.specs.Sizes.{nMax}
 use Rattle.lists.proofs.Tab.{getD-tab, tab-cong}
 use Rattle.text.specs.Lists.{placesMax, showList}
 use Rattle.text.specs.Words.{loKey, hiKey, invKey, rowKey}
-use Rattle.termwrite.proofs.Joined.{tab-next}
+use Rattle.term_write.proofs.Joined.{tab-next}
 use Rattle.faults.specs.declared.Fault.{Fault}
 use Rattle.faults.specs.declared.Finding.{Finding}
 use Rattle.jobs.specs.Checks.{lowCheck, highCheck, inverseCheck, rowCheck, sidedCheck}

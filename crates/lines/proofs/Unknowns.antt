@@ -17,8 +17,9 @@ use Rattle.text.specs.Words.{nKey}
 use Rattle.text.specs.Keys.{bodyOf}
 use Rattle.text.proofs.Keys.{both, body-own, body-was}
 use Rattle.jobs.specs.Checks.{unknownsCheck}
-use Rattle.termtext.specs.Terms.{isDigit, allDigits, oneDigit}
-use Rattle.termround.proofs.WriteBack.{digit-is}
+use Rattle.term_text.specs.Terms.{oneDigit}
+use Rattle.digits.specs.Digits.{isDigit, allDigits}
+use Rattle.term_round.proofs.WriteBack.{digit-is}
 use Rattle.reading.specs.Got.{after, passing, Told}
 use Rattle.reading.proofs.Told.{not-false, told-got, told-unless, told-map, told-passing}
 use Rattle.lines.specs.Found.{found}

@@ -18,8 +18,8 @@ use Rattle.jobs.specs.declared.Equation.{Equation}
 use Rattle.jobs.specs.declared.Verdict.{Verdict}
 use Rattle.jobs.specs.Checks.{unknownsCheck, lowCheck, highCheck, inverseCheck, equationCheck, rowCheck, sidedCheck}
 use Rattle.jobs.specs.CheckResult.{countedCheck}
-use Rattle.termtext.specs.Terms.{oneDigit, readEquation}
-use Rattle.termtext.specs.declared.Terms.{Terms}
+use Rattle.term_text.specs.Terms.{oneDigit, readEquation}
+use Rattle.term_text.specs.declared.Terms.{Terms}
 use Rattle.reading.specs.Got.{Got, after, passing, refuse}
 use Rattle.reading.specs.NumberLines.{placed, Listed, countLine, listLine, rowLine}
 use Rattle.lines.specs.Words.{kindWord, verdictWord}

@@ -11,19 +11,21 @@ use Rattle.faults.specs.declared.Finding.{Finding}
 use Rattle.faults.specs.Checks.{badUnless, firstOf}
 use Rattle.jobs.specs.declared.Equation.{Equation}
 use Rattle.jobs.specs.Checks.{equationCheck}
+use Rattle.jobs.specs.Terms.{goodTerms}
 use Rattle.text.specs.declared.Numbers.{Numbers}
-use Rattle.termtext.specs.declared.Terms.{Terms}
-use Rattle.termtext.specs.Terms.{readEquation}
+use Rattle.term_text.specs.declared.Terms.{Terms}
+use Rattle.term_text.specs.Terms.{readEquation}
 use Rattle.reading.specs.Got.{Got, after, passing, refuse}
 use Rattle.reading.specs.Places.{lineEnd, lineAt}
 use Rattle.reading.specs.NumberLines as numbers
 use Rattle.reading.specs.NumberLines.{listed, listLine, rowed, rowLine}
 use Rattle.reading.proofs.Ends.{line-after}
-use Rattle.scan.specs.declared.Listed.{Listed}
-use Rattle.scan.specs.Lines.{lineOf, endedAnd, listedOf, placesOf, ListFrom}
+use Rattle.scan.specs.declared.ListAt.{ListAt}
+use Rattle.scan.specs.Lines.{lineOf, endedAnd, listAtOf, placesOf, ListFrom}
 use Rattle.scan.specs.Lines as scan
-use Rattle.scan_terms.specs.declared.TermsAt.{TermsAt}
-use Rattle.scan_terms.specs.Lines.{termsOf, TermsFrom}
+use Rattle.term_read.specs.declared.TermsAt.{TermsAt}
+use Rattle.term_read.specs.Lines.{termsOf, TermsFrom}
+use Rattle.term_read.proofs.Near.{near-coefs}
 use Rattle.lines.specs.Found.{found}
 use Rattle.lines.specs.Lines.{misspelled, numbersOf, termsBy, equationOf}
 use Rattle.line_read.specs.At.{said, onward}
@@ -31,25 +33,25 @@ use Rattle.line_read.specs.Spells.{Spells}
 use Rattle.line_read.proofs.Checked.{spells-bad, spells-fine, odd-line}
 use Rattle.list_read.specs.Found.{countFound, termsIs, termsFound}
 
-module _ {key t : List ℕ} {a : ℕ} {r : Listed} {old vals : List ℤ} (w : ListFrom key t a r old vals) where
+module _ {key t : List ℕ} {a : ℕ} {r : ListAt} {old vals : List ℤ} (w : ListFrom key t a r old vals) where
   abbrev k : ℕ
   k = length old
 
   abbrev those : Numbers
-  those = scan.numbersOf key t a
+  those = scan.numbersAt key t a
 
   pub row-spells : (n : ℕ) → Spells (said (numbersOf key k n) t a) (onward t a) (countFound r n) (r .next) vals
-  unfolding lineAt rowLine rowed countFound listedOf placesOf firstOf badUnless
+  unfolding lineAt rowLine rowed countFound listAtOf placesOf firstOf badUnless
   row-spells n = rw odd-line (go (endedAnd t a (those .ok)) (w .answer) (w .places))
     where
-      counts : (c : Bool) → eqb (those .count) n ≡ c → r ≡ listedOf true those (lineEnd t a)
+      counts : (c : Bool) → eqb (those .count) n ≡ c → r ≡ listAtOf true those (lineEnd t a)
           → vals ≡ placesOf true those k
           → Spells (refuse (not c) Fault.Spelling (Got.got (take k (those .vals)))) (onward t a) (countFound r n)
           (r .next) vals
       counts true z p q = rw (p, z) (spells-fine _ refl q refl)
       counts false z p q = rw (p, z) (spells-bad Fault.Spelling refl)
 
-      go : (b : Bool) → r ≡ listedOf b those (lineEnd t a) → vals ≡ placesOf b those k
+      go : (b : Bool) → r ≡ listAtOf b those (lineEnd t a) → vals ≡ placesOf b those k
           → Spells
           (cond b (refuse (not (eqb (those .count) n)) Fault.Spelling (Got.got (take k (those .vals)))) misspelled)
           (onward t a) (countFound r n) (r .next) vals
@@ -59,10 +61,10 @@ module _ {key t : List ℕ} {a : ℕ} {r : Listed} {old vals : List ℤ} (w : Li
   pub list-spells : Spells {A = numbers.Listed} (said (listLine Fault.Spelling key k) t a) (onward t a)
       (badUnless (r .ok) Fault.Spelling)
       (r .next) (record { count = r .count; row = vals })
-  unfolding lineAt listLine listed listedOf placesOf badUnless
+  unfolding lineAt listLine listed listAtOf placesOf badUnless
   list-spells = rw odd-line (go (endedAnd t a (those .ok)) (w .answer) (w .places))
     where
-      go : (b : Bool) → r ≡ listedOf b those (lineEnd t a) → vals ≡ placesOf b those k
+      go : (b : Bool) → r ≡ listAtOf b those (lineEnd t a) → vals ≡ placesOf b those k
           → Spells {A = numbers.Listed}
           (cond b (Got.got (record { count = those .count; row = take k (those .vals) })) misspelled)
           (onward t a) (badUnless (r .ok) Fault.Spelling) (r .next) (record { count = r .count; row = vals })
@@ -101,6 +103,28 @@ terms-spell n t a {r} w = rw odd-line (go (endedAnd t a (those .ok)) w)
         (onward t a) (termsFound r) (r .next) (r .equation)
     go true p = near (those .far) refl p
     go false p = rw p (spells-bad Fault.Spelling refl)
+
+-- coefficients in their range need no second look
+pub shape-alone : (n : ℕ) (t : List ℕ) (a : ℕ) {r : TermsAt} → TermsFrom (readEquation n) t a r
+    → firstOf (termsFound r) (badUnless (goodTerms (r .equation) n) Fault.Terms)
+    ≡ firstOf (termsFound r) (equationCheck n (r .equation))
+unfolding termsFound termsOf firstOf badUnless equationCheck
+shape-alone n t a {r} w = go (endedAnd t a (those .ok)) w
+  where
+    those : Terms
+    those = readEquation n (lineOf t a)
+
+    near : (f : Bool) → those .far ≡ f → r ≡ termsOf true those (lineEnd t a)
+        → firstOf (termsFound r) (badUnless (goodTerms (r .equation) n) Fault.Terms)
+        ≡ firstOf (termsFound r) (equationCheck n (r .equation))
+    near true z p = rw (p, z)
+    near false z p = rw (p, z, near-coefs n (lineOf t a) z)
+
+    go : (b : Bool) → r ≡ termsOf b those (lineEnd t a)
+        → firstOf (termsFound r) (badUnless (goodTerms (r .equation) n) Fault.Terms)
+        ≡ firstOf (termsFound r) (equationCheck n (r .equation))
+    go true p = near (those .far) refl p
+    go false p = rw p
 
 -- an equation's line is its terms, then their check
 pub equation-is : (n : ℕ) → (λ l. passing (termsIs (readEquation n l)) (λ q. found (equationCheck n q))) ≡ equationOf n

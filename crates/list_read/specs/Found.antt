@@ -6,13 +6,13 @@ use Rattle.faults.specs.declared.Fault.{Fault}
 use Rattle.faults.specs.declared.Finding.{Finding}
 use Rattle.faults.specs.Checks.{badUnless, firstOf}
 use Rattle.jobs.specs.declared.Equation.{Equation}
-use Rattle.termtext.specs.declared.Terms.{Terms}
+use Rattle.term_text.specs.declared.Terms.{Terms}
 use Rattle.reading.specs.Got.{Got, refuse}
-use Rattle.scan.specs.declared.Listed.{Listed}
-use Rattle.scan_terms.specs.declared.TermsAt.{TermsAt}
+use Rattle.scan.specs.declared.ListAt.{ListAt}
+use Rattle.term_read.specs.declared.TermsAt.{TermsAt}
 
 -- n numbers, well spelled: "a list of the wrong count" is 2
-unfoldable pub countFound : Listed → ℕ → Finding
+unfoldable pub countFound : ListAt → ℕ → Finding
 countFound l n = firstOf (badUnless (l .ok) Fault.Spelling) (badUnless (eqb (l .count) n) Fault.Spelling)
 
 -- terms, well spelled, with coefficients in their range

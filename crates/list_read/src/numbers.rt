@@ -14,7 +14,7 @@ use jobs::zero::zero_row;
 use line_read::CellsLine;
 use line_read::LowLine;
 use line_read::RowsLine;
-use scan::Listed;
+use scan::ListAt;
 use scan::lines::list_at;
 use sizes::N;
 use text::PLACES;
@@ -29,7 +29,7 @@ ghost use Rattle.line_read.specs.At.{said, onward, cellsAt, lowAt, rowsAt};
 ghost use Rattle.list_read.specs.Found.{countFound};
 
 // n numbers, well spelled: their sizes are not looked at.
-pub fn count_found(l: Listed, n: usize) -> Finding
+pub fn count_found(l: ListAt, n: usize) -> Finding
     ensures { λ r. ⌜ r ≡ countFound l n ⌝ }
 {
     let spelled = bad_unless(l.ok, Fault::Spelling);
@@ -149,7 +149,7 @@ pub fn inverse_line(text: &[u8], from: usize, n: usize) -> RowsLine
 {
     let mut vals = [0; PLACES];
     let l = list_at(text, from, b"inv=", &mut vals);
-    let rows = rows_of(vals, n);
+    let rows = rows_of(&vals, n);
     judged_rows(
         first_of(count_found(l, n * n), inverse_check(n, rows)),
         rows,

@@ -12,9 +12,9 @@ ghost use Rattle.text.specs.Lists.{placesMax};
 ghost use Rattle.lines.specs.Places.{cells, rowsOf};
 
 // n of the numbers, from place `from` on.
-pub fn cells_of(vals: [i64; PLACES], from: usize, n: usize) -> [i64; N]
+pub fn cells_of(vals: &[i64; PLACES], from: usize, n: usize) -> [i64; N]
     requires { ⌜ (n ≤ nMax) × (from + n ≤ placesMax) ⌝ }
-    ensures { λ r. ⌜ r ≡ cells vals from n ⌝ }
+    ensures { λ r. ⌜ r ≡ cells (now (vals .entry)) from n ⌝ }
 {
     let mut row = [0; N];
     for j in 0..n {
@@ -24,16 +24,16 @@ pub fn cells_of(vals: [i64; PLACES], from: usize, n: usize) -> [i64; N]
 }
 
 // The number after the first n.
-pub fn side_of(vals: [i64; PLACES], n: usize) -> i64
+pub fn side_of(vals: &[i64; PLACES], n: usize) -> i64
     requires { ⌜ n ≤ nMax ⌝ }
-    ensures { λ r. ⌜ r ≡ getD vals n (pos 0) ⌝ }
+    ensures { λ r. ⌜ r ≡ getD (now (vals .entry)) n (pos 0) ⌝ }
 {
     vals[n]
 }
 
-pub fn rows_of(vals: [i64; PLACES], n: usize) -> [Row; N]
+pub fn rows_of(vals: &[i64; PLACES], n: usize) -> [Row; N]
     requires { ⌜ n ≤ nMax ⌝ }
-    ensures { λ r. ⌜ r ≡ rowsOf vals n ⌝ }
+    ensures { λ r. ⌜ r ≡ rowsOf (now (vals .entry)) n ⌝ }
 {
     let zero = zero_row();
     let mut rows = [zero; N];

@@ -7,15 +7,15 @@ use faults::Finding;
 use faults::bad_unless;
 use faults::first_of;
 use jobs::Equation;
-use jobs::checks::equation_check;
 use jobs::checks::sided_check;
+use jobs::terms::good_terms;
 use jobs::zero::zero_equation;
 use line_read::EquationLine;
 use line_read::SidedLine;
 use scan::lines::list_at;
-use scan_terms::TermsAt;
-use scan_terms::terms_at;
 use sizes::N;
+use term_read::TermsAt;
+use term_read::terms_at;
 use text::PLACES;
 ghost use mathlib.Core.Path.{_≡_};
 ghost use Prim.Native.Nat.{_≤_};
@@ -53,8 +53,8 @@ pub fn sided_line(text: &[u8], from: usize, n: usize) -> SidedLine
 {
     let mut vals = [0; PLACES];
     let l = list_at(text, from, b"row=", &mut vals);
-    let cells = cells_of(vals, 0, n);
-    let side = side_of(vals, n);
+    let cells = cells_of(&vals, 0, n);
+    let side = side_of(&vals, n);
     judged_sided(
         first_of(count_found(l, n + 1), sided_check(n, cells, side)),
         cells,
@@ -89,12 +89,23 @@ fn judged_equation(f: Finding, equation: Equation, next: usize) -> EquationLine
     }
 }
 
+// n itself. Where the compiler sees that a count is at most N, it unrolls the loops that go so far.
+fn bounded(n: usize) -> usize
+    requires { ⌜ n ≤ nMax ⌝ }
+    ensures { λ r. ⌜ r ≡ n ⌝ }
+{
+    if n < N { n } else { N }
+}
+
+// Where no coefficient is beyond its size, the check of an equation is that of its terms.
 pub fn equation_line(text: &[u8], from: usize, n: usize) -> EquationLine
     requires { ⌜ (from ≤ length (now text)) × (n ≤ nMax) ⌝ }
     ensures { λ r. ⌜ r ≡ equationAt (said (equationOf n) (now (text .entry)) from)
         (onward (now (text .entry)) from) ⌝ }
 {
-    let l = terms_at(text, from, n);
+    let few = bounded(n);
+    let l = terms_at(text, from, few);
     let q = l.equation;
-    judged_equation(first_of(terms_found(l), equation_check(n, q)), q, l.next)
+    let shape = bad_unless(good_terms(q, few), Fault::Terms);
+    judged_equation(first_of(terms_found(l), shape), q, l.next)
 }

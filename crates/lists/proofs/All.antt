@@ -41,14 +41,16 @@ module _ (p : ℕ → Bool) where
   unfolding allB
   all-stop zero i l e = absurd (not-suc-le-zero l)
   all-stop (suc n) i l e =
-      ⊎-elim (λ q. both-no (allB n p) (p n) (ap p (sym q) ∙ e)) (λ lt. ap (λ t. both t (p n)) (all-stop n i lt e)) (eq-or-lt-of-le (le-of-suc-le-suc l))
+      ⊎-elim (λ q. both-no (allB n p) (p n) (ap p (sym q) ∙ e)) (λ lt. ap (λ t. both t (p n)) (all-stop n i lt e))
+      (eq-or-lt-of-le (le-of-suc-le-suc l))
 
   -- what a yes says of each place
   pub all-each : (n i : ℕ) → i < n → allB n p ≡ true → p i ≡ true
   unfolding allB
   all-each zero i l e = absurd (not-suc-le-zero l)
   all-each (suc n) i l e =
-      ⊎-elim (λ q. ap p q ∙ both-snd (allB n p) (p n) e) (λ lt. all-each n i lt (both-fst (allB n p) (p n) e)) (eq-or-lt-of-le (le-of-suc-le-suc l))
+      ⊎-elim (λ q. ap p q ∙ both-snd (allB n p) (p n) e) (λ lt. all-each n i lt (both-fst (allB n p) (p n) e))
+      (eq-or-lt-of-le (le-of-suc-le-suc l))
 
 -- only what stands below n counts
 pub all-cong : (n : ℕ) (p q : ℕ → Bool) → ((i : ℕ) → i < n → p i ≡ q i) → allB n p ≡ allB n q

@@ -22,7 +22,9 @@ module _ {ℓ} {A : Type ℓ} (a : A) (f : ℕ → A → A) where
   carry-done h k e = rw (← le-antisymm h k) e
 
 -- only the changes below n count
-pub carry-cong {ℓ} : {A : Type ℓ} (n : ℕ) (a : A) (f g : ℕ → A → A) → ((i : ℕ) (s : A) → i < n → f i s ≡ g i s) → carry n a f ≡ carry n a g
+pub carry-cong {ℓ} : {A : Type ℓ} (n : ℕ) (a : A) (f g : ℕ → A → A) → ((i : ℕ) (s : A) → i < n → f i s ≡ g i s)
+    → carry n a f ≡ carry n a g
 unfolding carry
 carry-cong zero a f g h = refl
-carry-cong (suc n) a f g h = ap (f n) (carry-cong n a f g (λ i s l. h i s (omega arith))) ∙ h n (carry n a g) (omega arith)
+carry-cong (suc n) a f g h =
+    ap (f n) (carry-cong n a f g (λ i s l. h i s (omega arith))) ∙ h n (carry n a g) (omega arith)

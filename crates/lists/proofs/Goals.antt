@@ -19,7 +19,8 @@ module _ (n : ℕ) (room : n ≤ nMax) where
   fill-holds : replicate nMax 0 ≡ tab nMax 0 0 square
   fill-holds = tab-none 0 nMax square
 
-  fill-again : (i : ℕ) (s : List ℕ) (v : ℕ) → i < n → s ≡ tab nMax i 0 square → v ≡ i * i → set s i v ≡ tab nMax (i + 1) 0 square
+  fill-again : (i : ℕ) (s : List ℕ) (v : ℕ)
+      → i < n → s ≡ tab nMax i 0 square → v ≡ i * i → set s i v ≡ tab nMax (i + 1) 0 square
   fill-again i s v l inv e = tab-more 0 nMax i square (omega arith) inv e
 
   fill-returns : (i : ℕ) (s : List ℕ) → i ≤ n → n ≤ i → s ≡ tab nMax i 0 square → s ≡ tab nMax n 0 square

@@ -4,7 +4,7 @@ use mathlib.Core.List.{List, _∷_}
 use Prim.Native.Nat.{ℕ, zero, suc, _+_, _<_, _≤_, zero-le, suc-le-suc}
 use native.Mathlib.Nat.{not-suc-le-zero, le-of-suc-le-suc, le-antisymm, le-trans}
 use native.Mathlib.Numerals.{add-one}
-use lib.ListN.{length, getD, set, replicate, length-replicate, getD-replicate}
+use lib.ListN.{length, getD, set, replicate, length-replicate}
 use Rattle.lists.specs.Loops.{tab}
 
 module _ {ℓ} {A : Type ℓ} (d : A) where
@@ -27,7 +27,8 @@ module _ {ℓ} {A : Type ℓ} (d : A) where
   tab-suc (suc m) (suc n) f l = ap (λ (t : List A). f zero ∷ t) (tab-suc m n (λ i. f (suc i)) (le-of-suc-le-suc l))
 
   -- a turn: f n is stored at the first place that is not filled yet
-  pub tab-more : (m n : ℕ) (f : ℕ → A) {s : List A} {v : A} → n < m → s ≡ tab m n d f → v ≡ f n → set s n v ≡ tab m (n + 1) d f
+  pub tab-more : (m n : ℕ) (f : ℕ → A) {s : List A} {v : A}
+      → n < m → s ≡ tab m n d f → v ≡ f n → set s n v ≡ tab m (n + 1) d f
   tab-more m n f l e p = rw (e, p, add-one) (tab-suc m n f l)
 
   -- after the loop, as its test and its invariant leave the counter i
@@ -41,15 +42,6 @@ module _ {ℓ} {A : Type ℓ} (d : A) where
   getD-tab (suc m) zero f e i l h = absurd (not-suc-le-zero l)
   getD-tab (suc m) (suc n) f e zero l h = refl
   getD-tab (suc m) (suc n) f e (suc i) l h = getD-tab m n (λ j. f (suc j)) e i (le-of-suc-le-suc l) (le-of-suc-le-suc h)
-
-  -- a dead place
-  pub getD-tab-past : (m n : ℕ) (f : ℕ → A) (e : A) (i : ℕ) → n ≤ i → i < m → getD (tab m n d f) i e ≡ d
-  unfolding tab
-  getD-tab-past zero n f e i l h = absurd (not-suc-le-zero h)
-  getD-tab-past (suc m) zero f e zero l h = refl
-  getD-tab-past (suc m) zero f e (suc i) l h = getD-replicate m i d e (le-of-suc-le-suc h)
-  getD-tab-past (suc m) (suc n) f e zero l h = absurd (not-suc-le-zero l)
-  getD-tab-past (suc m) (suc n) f e (suc i) l h = getD-tab-past m n (λ j. f (suc j)) e i (le-of-suc-le-suc l) (le-of-suc-le-suc h)
 
   -- only what stands below n counts
   pub tab-cong : (m n : ℕ) (f g : ℕ → A) → ((i : ℕ) → i < n → f i ≡ g i) → tab m n d f ≡ tab m n d g

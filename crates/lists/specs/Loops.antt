@@ -1,4 +1,5 @@
--- What a loop over the places 0 to n - 1 means: it fills a list, carries a value along, or asks one question of every place.
+-- What a loop over the places 0 to n - 1 means: it fills a list, carries a value along, or asks one question of every
+-- place.
 use mathlib.Core.Bool.{Bool, true, false}
 use mathlib.Core.List.{List, [], _∷_}
 use Prim.Native.Nat.{ℕ, zero, suc}

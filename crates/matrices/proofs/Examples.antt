@@ -1,4 +1,5 @@
--- One rounding, and not one for each product: two products of 1 make 2, which rounds outward to [0,1]; rounded by themselves they would make [0,2].
+-- One rounding, and not one for each product: two products of 1 make 2, which rounds outward to [0,1]; rounded by
+-- themselves they would make [0,2].
 use mathlib.Core.Path.{_≡_, refl}
 use lib.IntN.{ℤ, pos, negℤ}
 use Rattle.integers.specs.Rounding.{floorBy, ceilBy}

@@ -1,4 +1,5 @@
--- Each scalar product holds the exact sum of products, whatever members are chosen; after its rounding the denominator is 65,536 times as large.
+-- Each scalar product holds the exact sum of products, whatever members are chosen; after its rounding the denominator
+-- is 65,536 times as large.
 use Prim.Native.Nat.{ℕ, _<_}
 use lib.IntN.{ℤ, pos, _-ℤ_, _*ℤ_}
 use lib.Signed.{_<ℤ_}
@@ -14,14 +15,17 @@ use Rattle.matrices.specs.Products.{dotI, unitZ, entryB, dOf, bOf, eOf}
 
 module _ (n : ℕ) where
   pub hold-dot : (u v : ℕ → ℤ) (A B : ℕ → Interval) {U W : ℤ} → pos 0 <ℤ U → pos 0 <ℤ W
-      → ((k : ℕ) → k < n → In (u k) U (A k)) → ((k : ℕ) → k < n → In (v k) W (B k)) → In (sumTo n (λ k. u k *ℤ v k)) (U *ℤ W) (dotI n A B)
+      → ((k : ℕ) → k < n → In (u k) U (A k)) → ((k : ℕ) → k < n → In (v k) W (B k))
+      → In (sumTo n (λ k. u k *ℤ v k)) (U *ℤ W) (dotI n A B)
   unfolding dotI
-  hold-dot u v A B p q h g = hold-sum n (λ k. u k *ℤ v k) (λ k. wideI (A k) (B k)) (pos-mul p q) (λ k l. hold-wide (h k l) (g k l))
+  hold-dot u v A B p q h g =
+      hold-sum n (λ k. u k *ℤ v k) (λ k. wideI (A k) (B k)) (pos-mul p q) (λ k l. hold-wide (h k l) (g k l))
 
   -- whole factors
   hold-points : (c v : ℕ → ℤ) (B : ℕ → Interval) {W : ℤ} → pos 0 <ℤ W
       → ((k : ℕ) → k < n → In (v k) W (B k)) → In (sumTo n (λ k. c k *ℤ v k)) W (dotI n (λ k. pointI (c k)) B)
-  hold-points c v B {W} q g = rw (one-*ℤ W) at (hold-dot c v (λ k. pointI (c k)) B {U = pos 1} (omega zorder) q (λ k _. hold-point (c k)) g)
+  hold-points c v B {W} q g =
+      rw (one-*ℤ W) at (hold-dot c v (λ k. pointI (c k)) B {U = pos 1} (omega zorder) q (λ k _. hold-point (c k)) g)
 
   -- D = C F
   pub hold-d : (C : ℕ → ℕ → ℤ) (F : ℕ → Interval) (i : ℕ) (v : ℕ → ℤ) {W : ℤ} → pos 0 <ℤ W
@@ -31,9 +35,11 @@ module _ (n : ℕ) where
 
   -- B = I - C S, with members of column j of S
   pub hold-b : (C : ℕ → ℕ → ℤ) (S : ℕ → ℕ → Interval) (i j : ℕ) (v : ℕ → ℤ) {W : ℤ} → pos 0 <ℤ W
-      → ((k : ℕ) → k < n → In (v k) W (S k j)) → In (unitZ i j *ℤ W -ℤ sumTo n (λ k. C i k *ℤ v k)) (W *ℤ pos mark) (bOf n C S i j)
+      → ((k : ℕ) → k < n → In (v k) W (S k j))
+      → In (unitZ i j *ℤ W -ℤ sumTo n (λ k. C i k *ℤ v k)) (W *ℤ pos mark) (bOf n C S i j)
   unfolding bOf entryB
-  hold-b C S i j v q g = hold-out (hold-add (hold-const (unitZ i j) q) (hold-neg (hold-points (C i) v (λ k. S k j) q g)))
+  hold-b C S i j v q g =
+      hold-out (hold-add (hold-const (unitZ i j) q) (hold-neg (hold-points (C i) v (λ k. S k j) q g)))
 
   -- E = B Z, with members of row i of B
   pub hold-e : (B : ℕ → ℕ → Interval) (Z : ℕ → Interval) (i : ℕ) (u v : ℕ → ℤ) {U W : ℤ} → pos 0 <ℤ U → pos 0 <ℤ W

@@ -26,7 +26,8 @@ module _ (n : ℕ) (C C' : ℕ → ℕ → ℤ) (i : ℕ) (same : (k : ℕ) → 
   unfolding bOf
   b-cong S S' j s = entry-cong n (λ k l. ap pointI (same k l)) s i j
 
-pub e-cong : (n : ℕ) (B B' : ℕ → ℕ → Interval) {Z Z' : ℕ → Interval} (i : ℕ) → ((k : ℕ) → k < n → B i k ≡ B' i k) → ((k : ℕ) → k < n → Z k ≡ Z' k)
+pub e-cong : (n : ℕ) (B B' : ℕ → ℕ → Interval) {Z Z' : ℕ → Interval} (i : ℕ) → ((k : ℕ) → k < n → B i k ≡ B' i k)
+    → ((k : ℕ) → k < n → Z k ≡ Z' k)
     → eOf n B Z i ≡ eOf n B' Z' i
 unfolding eOf
 e-cong n B B' i b z = ap outI (dot-cong n b z)

@@ -53,10 +53,12 @@ module _ {n : ℕ} {a b : ℕ → Interval} (h : DotIn n a b) where
   round-fits e = rw e (up-within (h .sum) (in-dot n (h .left) (h .right) (h .lefts) (h .rights)))
 
 -- a number that is read from an array, as a factor
-pub read-fits : {z : ℤ} {x : Interval} → mag z < 2 ^ 63 → FitsMul (pointI z) x → FitsMul (pointI (toZ w64 (ofZ w64 z))) x
+pub read-fits : {z : ℤ} {x : Interval}
+    → mag z < 2 ^ 63 → FitsMul (pointI z) x → FitsMul (pointI (toZ w64 (ofZ w64 z))) x
 read-fits {z} g h = rw (back (ok z g)) h
 
-pub read-back : (z : ℤ) (x : Interval) {r : Interval} → mag z < 2 ^ 63 → r ≡ wideI (pointI (toZ w64 (ofZ w64 z))) x → r ≡ wideI (pointI z) x
+pub read-back : (z : ℤ) (x : Interval) {r : Interval}
+    → mag z < 2 ^ 63 → r ≡ wideI (pointI (toZ w64 (ofZ w64 z))) x → r ≡ wideI (pointI z) x
 read-back z x g e = e ∙ ap (λ (z : ℤ). wideI (pointI z) x) (back (ok z g))
 
 -- D
@@ -72,7 +74,8 @@ module _ {n : ℕ} {C : ℕ → ℕ → ℤ} {F : ℕ → Interval} (h : DIn n C
 
   pub in-d : InI dMax (dOf n C F i)
   unfolding dOf
-  in-d = in-out dMax (omega (arith, h .room)) (in-dot n entryMax valueMax (λ k m. in-point (h .inverse i k l m)) (h .values))
+  in-d = in-out dMax (omega (arith, h .room))
+      (in-dot n entryMax valueMax (λ k m. in-point (h .inverse i k l m)) (h .values))
 
 -- B
 unit-within : (i j : ℕ) → Within (unitZ i j) (mark * mark)
@@ -102,7 +105,8 @@ module _ {n : ℕ} {C : ℕ → ℕ → ℤ} {S : ℕ → ℕ → Interval} (h :
   pub turned-fits : {p : Interval} → p ≡ dotI n (λ k. pointI (C i k)) (λ k. S k j) → FitsNeg p
   turned-fits e = rw e (fits-neg (omega (arith, whole)) product-in)
 
-  pub rest-fits : {u t : Interval} → u ≡ pointI (unitZ i j) → t ≡ negI (dotI n (λ k. pointI (C i k)) (λ k. S k j)) → FitsAdd u t
+  pub rest-fits : {u t : Interval} → u ≡ pointI (unitZ i j)
+      → t ≡ negI (dotI n (λ k. pointI (C i k)) (λ k. S k j)) → FitsAdd u t
   rest-fits e q = rw (e, q) (fits-add (omega (arith, whole)) (in-point (unit-within i j)) (in-neg product-in))
 
   pub round-rest : {s : Interval}

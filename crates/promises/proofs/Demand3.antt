@@ -1,5 +1,6 @@
--- Demand 3, of every accepted job of the three kinds with any proposed inverse. Only statements, in the customer's order and words; each is `Promises` of the
--- job's system. `jobRun j a` is the run of the job j with the allowance a, by the definitions that the contracts of the run cite.
+-- Demand 3, of every accepted job of the three kinds with any proposed inverse. Only statements, in the customer's
+-- order and words; each is `Promises` of the job's system. `jobRun j a` is the run of the job j with the allowance a,
+-- by the definitions that the contracts of the run cite.
 use mathlib.Core.Path.{_≡_}
 use mathlib.Core.List.{List}
 use mathlib.Core.Logic.{_↔_}
@@ -32,11 +33,14 @@ module _ (j : Job) (checked : checkJob j ≡ Status.Done) where
   abbrev s : System
   s = systemOf j accepted
 
-  -- The run that the promises are about is the public entry's: handed the job with an allowance that it accepts, it answers `jobRun` with that allowance.
-  pub entry : (a : ℕ) → a ≤ stepsMax → runJob (allow a j) ≡ record { status = Status.Done; result = resultOf j (jobRun j a) }
+  -- The run that the promises are about is the public entry's: handed the job with an allowance that it accepts, it
+  -- answers `jobRun` with that allowance.
+  pub entry : (a : ℕ)
+      → a ≤ stepsMax → runJob (allow a j) ≡ record { status = Status.Done; result = resultOf j (jobRun j a) }
   entry = entry-runs j accepted
 
-  -- "More steps never unsay an answer. Take one accepted job with two step allowances. The larger allowance's box lies in the smaller's,"
+  -- "More steps never unsay an answer. Take one accepted job with two step allowances. The larger allowance's box lies
+  -- in the smaller's,"
   pub larger-inside : {a b : ℕ} → a ≤ b → BoxInside (j .head .n) (jobRun j b .sides) (jobRun j a .sides)
   larger-inside = promises.larger-inside s
 
@@ -58,37 +62,47 @@ module _ (j : Job) (checked : checkJob j ≡ Status.Done) where
   -- and where step t + 1 begins on x, the run goes on by what the step on x decides;
   pub each-step : {t : ℕ} {x : List Interval} → Begins (jobRun j) t x
       → jobRun j (t + 1)
-      ≡ settle (stepOf (j .head .n) (equationOf j) (inverseOf j) x .what) (stepOf (j .head .n) (equationOf j) (inverseOf j) x .sides) (t + 1) (outcome Verdict.Spent (t + 1))
+      ≡ settle (stepOf (j .head .n) (equationOf j) (inverseOf j) x .what)
+      (stepOf (j .head .n) (equationOf j) (inverseOf j) x .sides) (t + 1) (outcome Verdict.Spent (t + 1))
   each-step = promises.each-step s
 
   -- "every point of the box with fractions for coordinates has its exact Newton image inside the computed image."
   pub images-inside : {t : ℕ} {x : List Interval} → Begins (jobRun j) t x → (p : Point) → Lies (j .head .n) p x
-      → Lies (j .head .n) (newtonOf (j .head .n) (equationOf j) (inverseOf j) p) (imageBox (j .head .n) (equationOf j) (inverseOf j) x)
+      → Lies (j .head .n) (newtonOf (j .head .n) (equationOf j) (inverseOf j) p)
+      (imageBox (j .head .n) (equationOf j) (inverseOf j) x)
   images-inside = promises.images-inside s
 
-  -- "So no exact fraction zero of the starting box is ever lost,": it lies in the box of every answer and of every step,
-  pub zero-in-answer : (p : Point) → Solves j p → Lies (j .head .n) p (startOf j) → (a : ℕ) → Lies (j .head .n) p (jobRun j a .sides)
+  -- "So no exact fraction zero of the starting box is ever lost,": it lies in the box of every answer and of every
+  -- step,
+  pub zero-in-answer : (p : Point) → Solves j p → Lies (j .head .n) p (startOf j) → (a : ℕ)
+      → Lies (j .head .n) p (jobRun j a .sides)
   zero-in-answer p zero = promises.zero-in-answer s p (solves-zero j accepted zero)
 
-  pub zero-in-step : (p : Point) → Solves j p → Lies (j .head .n) p (startOf j) → {t : ℕ} {x : List Interval} → Begins (jobRun j) t x → Lies (j .head .n) p x
+  pub zero-in-step : (p : Point) → Solves j p → Lies (j .head .n) p (startOf j) → {t : ℕ} {x : List Interval}
+      → Begins (jobRun j) t x → Lies (j .head .n) p x
   zero-in-step p zero = promises.zero-in-step s p (solves-zero j accepted zero)
 
   -- and where there is one the verdict is not "none":
-  pub none-no-zero : (a : ℕ) → jobRun j a .verdict ≡ Verdict.None → (p : Point) → Solves j p → Lies (j .head .n) p (startOf j) → ⊥
+  pub none-no-zero : (a : ℕ) → jobRun j a .verdict ≡ Verdict.None → (p : Point)
+      → Solves j p → Lies (j .head .n) p (startOf j) → ⊥
   none-no-zero a says p zero = promises.none-no-zero s a says p (solves-zero j accepted zero)
 
-  -- A fraction zero of a linear job is a fraction solution of A x = b, one of an eigenpair's job is a fraction eigenpair with last coordinate 1
+  -- A fraction zero of a linear job is a fraction solution of A x = b, one of an eigenpair's job is a fraction
+  -- eigenpair with last coordinate 1
   pub linear-zeros : j .head .kind ≡ Kind.Linear → (p : Point) → pos 0 <ℤ p .den → Solves j p ↔ SolvesLinear j p
   linear-zeros kind p den = jobs.linear-zeros j den kind
 
   pub eigen-zeros : j .head .kind ≡ Kind.Eigen → (p : Point) → pos 0 <ℤ p .den → Solves j p ↔ Eigenpair j p
   eigen-zeros kind p den = jobs.eigen-zeros j den kind
 
-  -- so "none" says of a linear job that the starting box has no fraction solution of A x = b, and of an eigenpair's that it has no such eigenpair
-  pub none-linear : (a : ℕ) → jobRun j a .verdict ≡ Verdict.None → j .head .kind ≡ Kind.Linear → (p : Point) → SolvesLinear j p → Lies (j .head .n) p (startOf j) → ⊥
+  -- so "none" says of a linear job that the starting box has no fraction solution of A x = b, and of an eigenpair's
+  -- that it has no such eigenpair
+  pub none-linear : (a : ℕ) → jobRun j a .verdict ≡ Verdict.None → j .head .kind ≡ Kind.Linear → (p : Point)
+      → SolvesLinear j p → Lies (j .head .n) p (startOf j) → ⊥
   none-linear a says kind p solves lies = none-no-zero a says p (linear-zeros kind p (lies .den) .1 solves) lies
 
-  pub none-eigen : (a : ℕ) → jobRun j a .verdict ≡ Verdict.None → j .head .kind ≡ Kind.Eigen → (p : Point) → Eigenpair j p → Lies (j .head .n) p (startOf j) → ⊥
+  pub none-eigen : (a : ℕ) → jobRun j a .verdict ≡ Verdict.None → j .head .kind ≡ Kind.Eigen → (p : Point)
+      → Eigenpair j p → Lies (j .head .n) p (startOf j) → ⊥
   none-eigen a says kind p pair lies = none-no-zero a says p (eigen-zeros kind p (lies .den) .1 pair) lies
 
   -- "and "unique" means there is at most one." By `zero-in-answer` it lies in the returned box, if there is one.
@@ -96,7 +110,8 @@ module _ (j : Job) (checked : checkJob j ≡ Status.Done) where
       → Lies (j .head .n) p (startOf j) → Lies (j .head .n) r (startOf j) → Same (j .head .n) p r
   at-most-one a says p r y z = promises.at-most-one s a says p r (solves-zero j accepted y) (solves-zero j accepted z)
 
-  -- "At a "unique" step, two different fraction points of the box it began on always have closer images: their largest coordinate difference, each divided
-  -- by that edge's width, gets strictly smaller."
-  pub unique-closer : (a : ℕ) → jobRun j a .verdict ≡ Verdict.Unique → UniqueStep (j .head .n) (equationOf j) (inverseOf j) (jobRun j) (jobRun j a)
+  -- "At a "unique" step, two different fraction points of the box it began on always have closer images: their largest
+  -- coordinate difference, each divided by that edge's width, gets strictly smaller."
+  pub unique-closer : (a : ℕ) → jobRun j a .verdict ≡ Verdict.Unique
+      → UniqueStep (j .head .n) (equationOf j) (inverseOf j) (jobRun j) (jobRun j a)
   unique-closer = promises.unique-closer s

@@ -49,6 +49,7 @@ module _ (j : Job) (a : ℕ) where
     system = λ i m. allow-good i (h .system i m);
   }
 
-pub entry-runs : (j : Job) → Accepted j → (a : ℕ) → a ≤ stepsMax → runJob (allow a j) ≡ record { status = Status.Done; result = resultOf j (jobRun j a) }
+pub entry-runs : (j : Job) → Accepted j → (a : ℕ)
+    → a ≤ stepsMax → runJob (allow a j) ≡ record { status = Status.Done; result = resultOf j (jobRun j a) }
 unfolding runJob resultOf
 entry-runs j h a l = rw (done-check (allow a j) (allow-accepted j a h l), allow-outcome j a)

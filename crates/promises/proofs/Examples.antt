@@ -1,4 +1,5 @@
--- The promises are not empty: document 01's marked example T11 is an accepted job, its run says "unique", and its zero is the point that the run names.
+-- The promises are not empty: document 01's marked example T11 is an accepted job, its run says "unique", and its zero
+-- is the point that the run names.
 use mathlib.Core.Path.{_≡_, refl}
 use mathlib.Core.List.{List, [], _∷_}
 use Prim.Native.Nat.{ℕ, zero, suc, _<_}
@@ -16,8 +17,10 @@ use Rattle.intervals.specs.Interval.{addI, negI, sumI, scaleI, wideI, outI, mul
 use Rattle.matrices.specs.Products.{dotI, dOf, unitZ, entryB, bOf, eOf}
 use Rattle.jobs.specs.Ranges.{isWithin, allWithin, allOrdered}
 use Rattle.faults.specs.Checks.{badUnless, firstOf, onLine, andThen, linesOf}
-use Rattle.jobs.specs.Checks.{goodUnknowns, goodMatrix, numberCheck, unknownsCheck, lowCheck, highCheck, inverseCheck, stepsCheck}
-use Rattle.jobs.specs.Checks.{rowCheck, sidedCheck, systemCheck, lineCheck, jobLineStatus, systemLines, headLines, bodyLines, checkJob}
+use Rattle.jobs.specs.Checks.{goodUnknowns, goodMatrix, numberCheck, unknownsCheck}
+use Rattle.jobs.specs.Checks.{lowCheck, highCheck, inverseCheck, stepsCheck}
+use Rattle.jobs.specs.Checks.{rowCheck, sidedCheck, systemCheck, lineCheck}
+use Rattle.jobs.specs.Checks.{jobLineStatus, systemLines, headLines, bodyLines, checkJob}
 use Rattle.systems.specs.Terms.{factorI, termOver, equationOver, lowered, termSlope, slopeOver}
 use Rattle.systems.specs.Fractions.{unitsOf}
 use Rattle.systems.specs.Kinds.{rowOf, unitE, linearEquation, equationOf}
@@ -44,18 +47,25 @@ job11 = record {
   ends = record { lo = negsuc 65535 ∷ negsuc 65535 ∷ []; hi = pos 65536 ∷ pos 65536 ∷ [] };
   inv = holding (pos 32768 ∷ pos 0 ∷ []) ∷ holding (pos 0 ∷ pos 16384 ∷ []) ∷ [];
   steps = 1;
-  system = record { eqs = []; rows = holding (pos 131072 ∷ pos 0 ∷ []) ∷ holding (pos 0 ∷ pos 262144 ∷ []) ∷ []; right = pos 65536 ∷ pos 65536 ∷ [] };
+  system = record {
+    eqs = [];
+    rows = holding (pos 131072 ∷ pos 0 ∷ []) ∷ holding (pos 0 ∷ pos 262144 ∷ []) ∷ [];
+    right = pos 65536 ∷ pos 65536 ∷ [];
+  };
 }
 
 pub accepted : checkJob job11 ≡ Status.Done
-unfolding checkJob headLines bodyLines numberCheck unknownsCheck goodUnknowns lowCheck highCheck inverseCheck goodMatrix stepsCheck systemLines linesOf systemCheck lineCheck jobLineStatus
+unfolding checkJob headLines bodyLines numberCheck unknownsCheck goodUnknowns lowCheck highCheck inverseCheck goodMatrix
+    stepsCheck systemLines linesOf systemCheck lineCheck jobLineStatus
     sidedCheck rowCheck badUnless firstOf onLine andThen allWithin isWithin allOrdered allB
 accepted = refl
 
 -- "unique, 1"
 pub answer : jobRun job11 1 .verdict ≡ Verdict.Unique
-unfolding startOf runOf stepOf imageBox imageOf decideOf allMeet allInside allB meetsI insideI dOf bOf entryB eOf dotI unitZ sumI carry addI negI scaleI wideI outI mulI midI
-    floorBy ceilBy minℤ maxℤ equationOver slopeOver termSlope termOver factorI lowered equationOf linearEquation unitE tab
+unfolding startOf runOf stepOf imageBox imageOf decideOf allMeet allInside allB meetsI insideI dOf bOf entryB eOf dotI
+    unitZ sumI carry addI negI scaleI wideI outI mulI midI
+    floorBy ceilBy minℤ maxℤ equationOver slopeOver termSlope termOver factorI lowered equationOf
+    linearEquation unitE tab
 answer = refl
 
 -- "[32768,32768] and [16384,16384]": the point (32768, 16384) over 1
@@ -66,7 +76,8 @@ solution : SolvesLinear job11 point11
 unfolding sumTo
 solution = record { each = line }
   where
-    line : (i : ℕ) → i < 2 → sumTo 2 (λ k. rowOf job11 i k *ℤ point11 .num k) ≡ numberAt (job11 .system .right) i *ℤ unitsOf (pos 1)
+    line : (i : ℕ) → i < 2
+        → sumTo 2 (λ k. rowOf job11 i k *ℤ point11 .num k) ≡ numberAt (job11 .system .right) i *ℤ unitsOf (pos 1)
     line zero l = refl
     line (suc zero) l = refl
     line (suc (suc i)) l = absurd (omega arith)

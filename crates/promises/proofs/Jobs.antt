@@ -27,7 +27,8 @@ use Rattle.promises.specs.Claims.{Point, Zero, Ordered, System}
 use Rattle.promises.specs.Jobs.{Solves, SolvesLinear, Eigenpair}
 
 module _ (j : Job) (a : Accepted j) where
-  pub given-degrees : (i : ℕ) → i < j .head .n → j .head .kind ≡ Kind.Poly → DegreesIn (j .head .n) (equationBy Kind.Poly j i)
+  pub given-degrees : (i : ℕ)
+      → i < j .head .n → j .head .kind ≡ Kind.Poly → DegreesIn (j .head .n) (equationBy Kind.Poly j i)
   given-degrees i l e = let good : GoodSystem Kind.Poly j i = rw e at (a .system i l) in record { each = good .deg }
 
   pub start-order : Ordered (j .head .n) (sideAt (startOf j))

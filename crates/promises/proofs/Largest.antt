@@ -17,7 +17,14 @@ between : (u w : ℕ → ℤ) (a b c : ℕ) → pos 0 <ℤ w a → pos 0 <ℤ w 
     → (u a *ℤ w b) ≤ℤ (u b *ℤ w a) → (u b *ℤ w c) ≤ℤ (u c *ℤ w b) → (u a *ℤ w c) ≤ℤ (u c *ℤ w a)
 between u w a b c wa wb wc h k =
     cancel-r (u a *ℤ w c) (u c *ℤ w a) (w b) wb
-    (omega (zorder, swap (u a) (w c) (w b), mul-mono-r h (nonneg wc), swap (u b) (w a) (w c), mul-mono-r k (nonneg wa), swap (u c) (w b) (w a)))
+    (omega (
+      zorder,
+      swap (u a) (w c) (w b),
+      mul-mono-r h (nonneg wc),
+      swap (u b) (w a) (w c),
+      mul-mono-r k (nonneg wa),
+      swap (u c) (w b) (w a),
+    ))
   where
     swap : (u v w : ℤ) → (u *ℤ v) *ℤ w ≡ (u *ℤ w) *ℤ v
     swap u v w = ring (u ∷ v ∷ w ∷ []) (λ u v w. (u ⊗ v) ⊗ w) (λ u v w. (u ⊗ w) ⊗ v) refl
@@ -54,5 +61,6 @@ largest (suc n) u w p = by (largest n u w (λ k l. p k (omega arith)))
           place = last;
           live = omega arith;
           most = λ k l. split k l (λ e. rw e (omega zorder))
-              (λ m. between u w k (r .place) last (p k l) (p (r .place) up) (p last (omega arith)) (r .most k m) (omega zorder));
+              (λ m. between u w k (r .place) last (p k l) (p (r .place) up) (p last (omega arith)) (r .most k m)
+              (omega zorder));
         }

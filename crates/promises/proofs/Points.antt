@@ -1,4 +1,5 @@
--- Points with denominators of their own, in a box on which a step says "unique": two zeros are the same point, and different points have closer images.
+-- Points with denominators of their own, in a box on which a step says "unique": two zeros are the same point, and
+-- different points have closer images.
 use mathlib.Core.Path.{_≡_, refl, ap, _∙_}
 use mathlib.Core.List.{List, [], _∷_}
 use Prim.Native.Nat.{ℕ, _<_}
@@ -17,9 +18,11 @@ use Rattle.run.specs.Newton.{newtonScale, newtonDen, newtonNum}
 use Rattle.run.specs.Meanings.{Strictly}
 use Rattle.intervals.specs.declared.Interval.{Interval}
 use Rattle.jobs.specs.declared.Equation.{Equation}
-use Rattle.promises.specs.Claims.{Ordered, Point, Lies, Same, Zero, newtonOf, apart, widthOf, Largest, CloserAt, Closer}
+use Rattle.promises.specs.Claims.{Ordered, Point, Lies, Same, Zero, newtonOf}
+use Rattle.promises.specs.Claims.{apart, widthOf, Largest, CloserAt, Closer}
 use Rattle.promises.proofs.Contraction.{gap, farthest, contraction, one-zero}
-use Rattle.promises.proofs.Scale.{times, power-mul, box-scale, zero-scale, newton-scale, fixedDen, fixed-pos, den-fixed}
+use Rattle.promises.proofs.Scale.{times, power-mul, box-scale, zero-scale}
+use Rattle.promises.proofs.Scale.{newton-scale, fixedDen, fixed-pos, den-fixed}
 
 module _ (n : ℕ) (q : ℕ → Equation) (C : ℕ → ℕ → ℤ) (x : List Interval) (degrees : (k : ℕ) → k < n → DegreesIn n (q k))
     (order : Ordered n (sideAt x)) (strictly : Strictly n (sideAt x) (imageOf n q C (sideAt x)))
@@ -54,7 +57,12 @@ module _ (n : ℕ) (q : ℕ → Equation) (C : ℕ → ℕ → ℤ) (x : List In
   images-gap i =
       ap absℤ (rw (den-fixed d, den-fixed e) factored)
       ∙ abs-mul (N p *ℤ power e degreeMax -ℤ N r *ℤ power d degreeMax) fixedDen
-      ∙ rw (abs-pos fixedDen (nonneg fixed-pos), newton-scale n q C degrees (p .num) d e i, *ℤ-comm d e, newton-scale n q C degrees (r .num) e d i)
+      ∙ rw (
+        abs-pos fixedDen (nonneg fixed-pos),
+        newton-scale n q C degrees (p .num) d e i,
+        *ℤ-comm d e,
+        newton-scale n q C degrees (r .num) e d i,
+      )
     where
       N : Point → ℤ
       N w = newtonNum n q C (w .num) (w .den) i
@@ -72,7 +80,8 @@ module _ (n : ℕ) (q : ℕ → Equation) (C : ℕ → ℕ → ℤ) (x : List In
       apart-from all = differ (record { each = all })
 
       far : Largest n (apart p r) (widthOf (sideAt x))
-      far = unfold apart in (farthest n q C (sideAt x) degrees order strictly (times (p .num) e) (times (r .num) d) apart-from)
+      far = unfold apart in
+          (farthest n q C (sideAt x) degrees order strictly (times (p .num) e) (times (r .num) d) apart-from)
 
       w : ℕ → ℤ
       w = widthOf (sideAt x)
@@ -96,9 +105,11 @@ module _ (n : ℕ) (q : ℕ → Equation) (C : ℕ → ℕ → ℤ) (x : List In
           dens : newtonDen d *ℤ newtonDen e ≡ fixedDen *ℤ newtonDen (d *ℤ e)
           dens =
               rw (den-fixed d, den-fixed e, den-fixed (d *ℤ e), power-mul d e degreeMax)
-              (ring (fixedDen ∷ power d degreeMax ∷ power e degreeMax ∷ []) (λ f u v. (f ⊗ u) ⊗ (f ⊗ v)) (λ f u v. f ⊗ (f ⊗ (u ⊗ v))) refl)
+              (ring (fixedDen ∷ power d degreeMax ∷ power e degreeMax ∷ []) (λ f u v. (f ⊗ u) ⊗ (f ⊗ v))
+              (λ f u v. f ⊗ (f ⊗ (u ⊗ v))) refl)
 
-          more : (A *ℤ w i) *ℤ (newtonDen d *ℤ newtonDen e) ≡ (A *ℤ (w i *ℤ newtonScale (d *ℤ e))) *ℤ (fixedDen *ℤ (d *ℤ e))
+          more : (A *ℤ w i) *ℤ (newtonDen d *ℤ newtonDen e)
+              ≡ (A *ℤ (w i *ℤ newtonScale (d *ℤ e))) *ℤ (fixedDen *ℤ (d *ℤ e))
           more =
               ap (λ (z : ℤ). (A *ℤ w i) *ℤ z) dens
               ∙ ring (A ∷ w i ∷ newtonScale (d *ℤ e) ∷ fixedDen ∷ (d *ℤ e) ∷ [])

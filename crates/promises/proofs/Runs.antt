@@ -1,4 +1,5 @@
--- Runs of steps: what their definition says of one step and of several, that boxes only shrink, that a decided answer stays, and that no zero is lost.
+-- Runs of steps: what their definition says of one step and of several, that boxes only shrink, that a decided answer
+-- stays, and that no zero is lost.
 use mathlib.Core.Path.{_≡_, refl, sym, ap, _∙_}
 use mathlib.Core.Bool.{Bool, true, false}
 use mathlib.Core.List.{List}
@@ -25,7 +26,8 @@ use Rattle.run.specs.Decide.{allMeet, cutBox, decideOf}
 use Rattle.run.specs.Meanings.{Strictly}
 use Rattle.run.specs.Run.{outcome, settle, imageBox, stepOf, runOf}
 use Rattle.run.proofs.Hold.{middle-in, image-holds, image-keeps, image-at}
-use Rattle.run.proofs.Decisions.{zero-one, Decided, none, unique, stalled, next, decided, all-meet, cut-at, cut-inside, cut-ordered, step-is}
+use Rattle.run.proofs.Decisions.{zero-one, Decided, none, unique, stalled, next, decided}
+use Rattle.run.proofs.Decisions.{all-meet, cut-at, cut-inside, cut-ordered, step-is}
 use Rattle.promises.specs.Claims.{Ordered, BoxInside}
 
 false-true : {b : Bool} → b ≡ false → b ≡ true → ⊥
@@ -72,14 +74,16 @@ module _ (n : ℕ) (q : ℕ → Equation) (C : ℕ → ℕ → ℤ) where
   unfolding runOf
   by-step x done Z onNone onUnique onStalled onNext = rw (step-is n q C x) (by (decided n x (K x)))
     where
-      by : Decided n x (K x) → Z (λ a. settle (decideOf n x (K x) .what) (decideOf n x (K x) .sides) (done + 1) (runOf n q C a (done + 1)))
+      by : Decided n x (K x)
+          → Z (λ a. settle (decideOf n x (K x) .what) (decideOf n x (K x) .sides) (done + 1) (runOf n q C a (done + 1)))
       by (none e m) = rw e (onNone m)
       by (unique e s) = rw e (onUnique s)
       by (stalled e s) = rw e onStalled
       by (next e m) = rw e (onNext m)
 
   -- ---- several steps
-  pub run-one : (t : ℕ) (x : List Interval) → runOf n q C 1 t x ≡ settle (stepOf n q C x .what) (stepOf n q C x .sides) (t + 1) (outcome Verdict.Spent (t + 1))
+  pub run-one : (t : ℕ) (x : List Interval) → runOf n q C 1 t x
+      ≡ settle (stepOf n q C x .what) (stepOf n q C x .sides) (t + 1) (outcome Verdict.Spent (t + 1))
   unfolding runOf
   run-one t x = refl
 
@@ -90,7 +94,8 @@ module _ (n : ℕ) (q : ℕ → Equation) (C : ℕ → ℕ → ℤ) where
   run-spent (suc a) done x e =
       by-step x done (λ f. f a .verdict ≡ Verdict.Spent → f a ≡ outcome Verdict.Spent (done + suc a) (f a .sides))
       (λ m e. absurd (zero-one (cc))) (λ s e. absurd (zero-one (cc))) (λ e. absurd (zero-one (cc)))
-      (λ m e. run-spent a (done + 1) (cut x) e ∙ ap (λ (t : ℕ). outcome Verdict.Spent t (runOf n q C a (done + 1) (cut x) .sides)) (omega arith)) e
+      (λ m e. run-spent a (done + 1) (cut x) e
+      ∙ ap (λ (t : ℕ). outcome Verdict.Spent t (runOf n q C a (done + 1) (cut x) .sides)) (omega arith)) e
 
   pub whole-spent : (a : ℕ) (x : List Interval) → runOf n q C a 0 x .verdict ≡ Verdict.Spent
       → runOf n q C a 0 x ≡ outcome Verdict.Spent a (runOf n q C a 0 x .sides)
@@ -103,7 +108,8 @@ module _ (n : ℕ) (q : ℕ → Equation) (C : ℕ → ℕ → ℤ) where
       (λ m. omega (arith, run-count a (done + 1) (cut x)))
 
   -- what it leaves, a longer run takes up
-  pub run-on : (a b done : ℕ) (x : List Interval) {t : ℕ} {y : List Interval} → runOf n q C a done x ≡ outcome Verdict.Spent t y
+  pub run-on : (a b done : ℕ) (x : List Interval) {t : ℕ} {y : List Interval}
+      → runOf n q C a done x ≡ outcome Verdict.Spent t y
       → runOf n q C (a + b) done x ≡ runOf n q C b t y
   run-on zero b done x {t} {y} e =
       let s : outcome Verdict.Spent done x ≡ outcome Verdict.Spent t y = sym (run-none done x) ∙ e in
@@ -111,7 +117,8 @@ module _ (n : ℕ) (q : ℕ → Equation) (C : ℕ → ℕ → ℤ) where
   run-on (suc a) b done x {t} {y} e =
       rw (suc-add a b)
       (by-step x done (λ f. f a ≡ outcome Verdict.Spent t y → f (a + b) ≡ runOf n q C b t y)
-      (λ m e. absurd (zero-one (cc (verdict-of e)))) (λ s e. absurd (zero-one (cc (verdict-of e)))) (λ e. absurd (zero-one (cc (verdict-of e))))
+      (λ m e. absurd (zero-one (cc (verdict-of e)))) (λ s e. absurd (zero-one (cc (verdict-of e))))
+      (λ e. absurd (zero-one (cc (verdict-of e))))
       (λ m. run-on a b (done + 1) (cut x)) e)
 
   -- a decided answer stays, with box and count
@@ -120,7 +127,8 @@ module _ (n : ℕ) (q : ℕ → Equation) (C : ℕ → ℕ → ℤ) where
   run-stays zero b done x h = absurd (h (verdict-of (run-none done x)))
   run-stays (suc a) b done x h =
       rw (suc-add a b)
-      (by-step x done (λ f. (f a .verdict ≡ Verdict.Spent → ⊥) → f (a + b) ≡ f a) (λ m h. refl) (λ s h. refl) (λ h. refl)
+      (by-step x done (λ f. (f a .verdict ≡ Verdict.Spent → ⊥) → f (a + b) ≡ f a) (λ m h. refl)
+      (λ s h. refl) (λ h. refl)
       (λ m. run-stays a b (done + 1) (cut x)) h)
 
   -- ---- the step that decides
@@ -161,7 +169,8 @@ module _ (n : ℕ) (q : ℕ → Equation) (C : ℕ → ℕ → ℤ) where
   module _ (room : n ≤ nMax) where
     -- ---- boxes only shrink
     image-inside : (x : List Interval) → Strictly n (sideAt x) (sideAt (K x)) → BoxInside n (K x) x
-    image-inside x s = record { each = λ i l. record { low = omega (zorder, s i l .0); high = omega (zorder, s i l .1) } }
+    image-inside x s =
+        record { each = λ i l. record { low = omega (zorder, s i l .0); high = omega (zorder, s i l .1) } }
 
     pub run-shrinks : (a done : ℕ) (x : List Interval) → BoxInside n (runOf n q C a done x .sides) x
     run-shrinks zero done x = rw run-none (box-same x)
@@ -169,30 +178,36 @@ module _ (n : ℕ) (q : ℕ → Equation) (C : ℕ → ℕ → ℤ) where
         by-step x done (λ f. BoxInside n (f a .sides) x) (λ m. box-same x) (image-inside x) (box-same x)
         (λ m. box-trans (run-shrinks a (done + 1) (cut x)) (record { each = cut-inside n x (K x) room }))
 
-    pub run-nested : (a b done : ℕ) (x : List Interval) → BoxInside n (runOf n q C (a + b) done x .sides) (runOf n q C a done x .sides)
+    pub run-nested : (a b done : ℕ) (x : List Interval)
+        → BoxInside n (runOf n q C (a + b) done x .sides) (runOf n q C a done x .sides)
     run-nested zero b done x = rw (zero-add b, run-none done x) (run-shrinks b done x)
     run-nested (suc a) b done x =
         rw (suc-add a b)
-        (by-step x done (λ f. BoxInside n (f (a + b) .sides) (f a .sides)) (λ m. box-same x) (λ s. box-same (K x)) (box-same x)
+        (by-step x done (λ f. BoxInside n (f (a + b) .sides) (f a .sides)) (λ m. box-same x)
+        (λ s. box-same (K x)) (box-same x)
         (λ m. run-nested a b (done + 1) (cut x)))
 
     module _ (degrees : (k : ℕ) → k < n → DegreesIn n (q k)) where
       -- what lies in the image, place by place, lies in it as a box
-      in-box : (x : List Interval) {P : ℕ → ℤ} {d : ℤ} → InBox n P d (imageOf n q C (sideAt x)) → InBox n P d (sideAt (K x))
+      in-box : (x : List Interval) {P : ℕ → ℤ} {d : ℤ} → InBox n P d (imageOf n q C (sideAt x))
+          → InBox n P d (sideAt (K x))
       in-box x h = record { den = h .den; each = λ i l. rw (image-at n room q C x i l) (h .each i l) }
 
-      pub image-box : (x : List Interval) {P : ℕ → ℤ} {d : ℤ} → InBox n P d (sideAt x) → InBox n (newtonNum n q C P d) (newtonDen d) (sideAt (K x))
+      pub image-box : (x : List Interval) {P : ℕ → ℤ} {d : ℤ} → InBox n P d (sideAt x)
+          → InBox n (newtonNum n q C P d) (newtonDen d) (sideAt (K x))
       image-box x h = in-box x (image-holds n q C (sideAt x) degrees h)
 
       -- ---- the ends of every box stand in order
       pub image-ordered : (x : List Interval) → Ordered n (sideAt x) → Ordered n (sideAt (K x))
       image-ordered x o i l = hold-order (image-box x (middle-in n (sideAt x) {d = pos 1} (omega zorder) o) .each i l)
 
-      pub run-ordered : (a done : ℕ) (x : List Interval) → Ordered n (sideAt x) → Ordered n (sideAt (runOf n q C a done x .sides))
+      pub run-ordered : (a done : ℕ) (x : List Interval) → Ordered n (sideAt x)
+          → Ordered n (sideAt (runOf n q C a done x .sides))
       run-ordered zero done x o = rw run-none o
       run-ordered (suc a) done x o =
           by-step x done (λ f. Ordered n (sideAt (f a .sides))) (λ m. o) (λ s. image-ordered x o) o
-          (λ m. run-ordered a (done + 1) (cut x) (λ i l. cut-ordered n x (K x) room m i l (o i l) (image-ordered x o i l)))
+          (λ m. run-ordered a (done + 1) (cut x)
+          (λ i l. cut-ordered n x (K x) room m i l (o i l) (image-ordered x o i l)))
 
       -- ---- no zero is lost
       module _ {P : ℕ → ℤ} {d : ℤ} (zeros : (k : ℕ) → k < n → equationNum n (q k) P d ≡ pos 0) where
@@ -200,7 +215,10 @@ module _ (n : ℕ) (q : ℕ → Equation) (C : ℕ → ℕ → ℤ) where
         image-zero x h = in-box x (image-keeps n q C (sideAt x) degrees h zeros)
 
         cut-zero : (x : List Interval) → InBox n P d (sideAt x) → InBox n P d (sideAt (cut x))
-        cut-zero x h = record { den = h .den; each = λ i l. rw (cut-at n x (K x) room i l) (hold-cut (h .each i l) (image-zero x h .each i l)) }
+        cut-zero x h = record {
+          den = h .den;
+          each = λ i l. rw (cut-at n x (K x) room i l) (hold-cut (h .each i l) (image-zero x h .each i l));
+        }
 
         -- it stays in the box, and the verdict is not none
         pub run-keeps : (a done : ℕ) (x : List Interval) → InBox n P d (sideAt x)

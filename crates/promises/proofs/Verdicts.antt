@@ -14,7 +14,8 @@ use Rattle.run.specs.Run.{outcome, settle, imageBox, stepOf, runOf}
 use Rattle.run.proofs.Decisions.{zero-one, Decided, none, unique, stalled, next, decided}
 use Rattle.run.proofs.Exactly.{none-exactly, unique-exactly, stalled-exactly}
 use Rattle.promises.specs.Claims.{Ordered, System, runWith, Begins, Reaches, EmptyOn, StrictlyOn, UnchangedOn}
-use Rattle.promises.proofs.Runs.{verdict-of, more, whole-spent, run-one, run-on, run-stays, image-ordered, run-ordered, deciding}
+use Rattle.promises.proofs.Runs.{verdict-of, more, whole-spent, run-one, run-on}
+use Rattle.promises.proofs.Runs.{run-stays, image-ordered, run-ordered, deciding}
 
 -- ---- a step's move as a verdict, "spent" for a step that goes on, and the box that comes with it
 abbrev pub verdictBy : Move → Verdict

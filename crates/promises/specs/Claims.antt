@@ -82,8 +82,8 @@ module _ (n : ℕ) (q : ℕ → Equation) (C : ℕ → ℕ → ℤ) (x : List In
     pub farthest : Largest n (apart p r) (widthOf (sideAt x))
     pub smaller : (i : ℕ) → i < n → CloserAt (farthest .place) i
 
--- the same in whole numbers and sharper, for points P and R over one denominator d: where they are at most u / v widths apart in each coordinate, their
--- images are at most u / v of the widths less 2 marks apart
+-- the same in whole numbers and sharper, for points P and R over one denominator d: where they are at most u / v widths
+-- apart in each coordinate, their images are at most u / v of the widths less 2 marks apart
 pub record Sharper (n : ℕ) (q : ℕ → Equation) (C : ℕ → ℕ → ℤ) (X : ℕ → Interval) : Type 0 where
   pub within : (P R : ℕ → ℤ) (d u v : ℤ) → pos 0 ≤ℤ u → pos 0 ≤ℤ v → InBox n P d X → InBox n R d X
       → ((k : ℕ) → k < n → (absℤ (P k -ℤ R k) *ℤ v) ≤ℤ (u *ℤ widthOf X k))

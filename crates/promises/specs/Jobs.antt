@@ -1,4 +1,5 @@
--- What demand 3 says of a job: its run with any allowance, and its solutions in the formulas of document 01, "The three kinds".
+-- What demand 3 says of a job: its run with any allowance, and its solutions in the formulas of document 01, "The three
+-- kinds".
 use mathlib.Core.Path.{_≡_}
 use Prim.Native.Nat.{ℕ, _<_}
 use lib.IntN.{pos, _*ℤ_}
@@ -29,10 +30,11 @@ pub record Solves (j : Job) (p : Point) : Type 0 where
 
 -- "a linear one (A x = b)": row i times x is b(i). Unknown k is p k over 65,536 den.
 pub record SolvesLinear (j : Job) (p : Point) : Type 0 where
-  pub each : (i : ℕ) → i < j .head .n → sumTo (j .head .n) (λ k. rowOf j i k *ℤ p .num k) ≡ numberAt (j .system .right) i *ℤ unitsOf (p .den)
+  pub each : (i : ℕ) → i < j .head .n
+      → sumTo (j .head .n) (λ k. rowOf j i k *ℤ p .num k) ≡ numberAt (j .system .right) i *ℤ unitsOf (p .den)
 
--- "an eigenpair of a matrix", A x = L x, "the last coordinate of the vector is set to 1" and unknown n is L: row i times x is L x(i). In marks L x(i) is 65,536
--- times what it is in units.
+-- "an eigenpair of a matrix", A x = L x, "the last coordinate of the vector is set to 1" and unknown n is L: row i
+-- times x is L x(i). In marks L x(i) is 65,536 times what it is in units.
 pub record Eigenpair (j : Job) (p : Point) : Type 0 where
   pub each : (i : ℕ) → i < j .head .n
       → sumTo (j .head .n) (λ k. rowOf j i k *ℤ coordinate (pinned j) (p .num) (p .den) k) *ℤ unitsOf (p .den)

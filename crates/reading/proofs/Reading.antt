@@ -13,7 +13,7 @@ use Rattle.text.proofs.Pieces.{pieces, rest, cut-fold, cut-whole}
 use Rattle.text.proofs.Keys.{both}
 use Rattle.reading.specs.Got.{Got, Told}
 use Rattle.reading.specs.Lines.{Next, Form, State, Answer, heard, step, begin, opened, more, ended, closed}
-use Rattle.reading.specs.Lines.{read, Reads, bytes, KeptAt}
+use Rattle.reading.specs.Lines.{read, Reads, bytes}
 use Rattle.reading.proofs.Decided.{at-bad, stays-bad}
 
 -- a refusal is no value
@@ -115,18 +115,3 @@ module _ {F L X : Type 0} (g : Form F L X) where
             ∙ ap (λ (l : List ℕ). bytes (pieces lineFeed t) ++ l) (sym (no-bytes (rest lineFeed t) (end .none)))
             ∙ cut-whole lineFeed t;
       }
-
--- what each line tells of the value that it leaves holds of every state that is no fault
-module _ {F L X : Type 0} (g : Form F L X) (Kept : L → X → Type 0)
-    (tells : (k : L) (v : X) (l : List ℕ) → g .last k ≡ false → Kept k v
-    → Told (λ x. Kept (x .kind) (x .value)) (g .says k v l)) where
-  pub kept-told : (s : State F L X) (l : List ℕ) → KeptAt Kept s → KeptAt Kept (step g s l)
-  unfolding KeptAt step heard
-  kept-told (State.bad f n) l p = p
-  kept-told (State.at k v) l p = go (g .last k) refl (g .says k v l) refl
-    where
-      go : (t : Bool) → g .last k ≡ t → (r : Got F (Next L X)) → g .says k v l ≡ r
-          → KeptAt Kept (cond t (State.bad (g .odd) (g .number k v)) (heard (g .number k v) r))
-      go true o r e = tt
-      go false o (Got.fault f) e = tt
-      go false o (Got.got x) e = tells k v l o p .told x e

@@ -8,10 +8,10 @@ use lib.ListN.{length}
 use Rattle.digits.specs.Bytes.{lineFeed}
 use Rattle.text.proofs.Pieces.{Above}
 use Rattle.reading.specs.Got.{Told}
-use Rattle.reading.specs.Lines.{Form, Next, State, Answer, step, read, Reads, bytes, KeptAt}
+use Rattle.reading.specs.Lines.{Form, Next, Answer, read, Reads, bytes}
 use Rattle.reading.specs.Refused.{Refused}
 use Rattle.reading.specs.Shows.{Shows, linesOf, before, shown, live, Passed, Kept, judged}
-use Rattle.reading.proofs.Reading.{was, each-line, kept-told}
+use Rattle.reading.proofs.Reading.{was, each-line}
 use Rattle.reading.proofs.Walk.{Tied, Law, Ready, passed-done, read-shown}
 
 -- what a line leaves
@@ -74,14 +74,6 @@ module _ {F L X : Type 0} (g : Form F L X) (w : Shows F L X) (Has Spelt : X → 
           record { passed = rw (laws .none) tt; only = laws .nothing (g .none) },
           laws .has (g .none),
         )
-
-    -- what is kept by each line
-    pub step-kept : (s : State F L X) (l : List ℕ) → KeptAt (λ k v. Kept w k v × Has v k) s
-        → KeptAt (λ k v. Kept w k v × Has v k) (step g s l)
-    step-kept =
-        kept-told g (λ k v. Kept w k v × Has v k) (λ k v l o p. record {
-          told = λ x e. let now = laws .grows k v l o (p .0) (p .1) .told x e in (now .kept, now .has);
-        })
 
     -- "a line counted from 1": the first bad line is named by its place
     pub numbered : (t : List ℕ) (f : F) (n : ℕ) (r : Refused g t f n) → n ≡ length (r .before) + 1

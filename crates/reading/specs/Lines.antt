@@ -47,11 +47,6 @@ pub record Part (F L X : Type 0) : Type 0 where
   pub cut : Cut (State F L X)
   pub size : ℕ
 
--- what holds of the kind and the value of a state that is no fault
-unfoldable pub KeptAt : {F L X : Type 0} → (L → X → Type 0) → State F L X → Type 0
-KeptAt Kept (State.at k v) = Kept k v
-KeptAt Kept (State.bad f n) = Unit {0}
-
 unfoldable pub heard : {F L X : Type 0} → ℕ → Got F (Next L X) → State F L X
 heard n (Got.got x) = State.at (x .kind) (x .value)
 heard n (Got.fault f) = State.bad f n

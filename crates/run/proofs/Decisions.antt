@@ -55,7 +55,8 @@ module _ (n : ℕ) (x k : List Interval) where
       by true m false i false e = next (rw (m, i, e)) m
 
   -- a fraction point in both boxes: they meet
-  pub all-meet : (P : ℕ → ℤ) {d : ℤ} → ((i : ℕ) → i < n → In (P i) d (sideAt x i)) → ((i : ℕ) → i < n → In (P i) d (sideAt k i)) → allMeet n x k ≡ true
+  pub all-meet : (P : ℕ → ℤ) {d : ℤ} → ((i : ℕ) → i < n → In (P i) d (sideAt x i))
+      → ((i : ℕ) → i < n → In (P i) d (sideAt k i)) → allMeet n x k ≡ true
   unfolding allMeet
   all-meet P h g = each-all (λ i. meetsI (sideAt x i) (sideAt k i)) n (λ i l. hold-meets (h i l) (g i l))
 
@@ -69,10 +70,12 @@ module _ (n : ℕ) (x k : List Interval) where
     cut-inside i l = rw (cut-at i l) (intervals.cut-inside (sideAt x i) (sideAt k i))
 
     -- boxes that meet have a cut whose ends stand in order
-    pub cut-ordered : allMeet n x k ≡ true → (i : ℕ) → i < n → sideAt x i .lo ≤ℤ sideAt x i .hi → sideAt k i .lo ≤ℤ sideAt k i .hi
+    pub cut-ordered : allMeet n x k ≡ true → (i : ℕ)
+        → i < n → sideAt x i .lo ≤ℤ sideAt x i .hi → sideAt k i .lo ≤ℤ sideAt k i .hi
         → sideAt (cutBox n x k) i .lo ≤ℤ sideAt (cutBox n x k) i .hi
     unfolding allMeet
-    cut-ordered e i l a b = rw (cut-at i l) (cut-order _ _ a b (all-each (λ i. meetsI (sideAt x i) (sideAt k i)) n i l e))
+    cut-ordered e i l a b =
+        rw (cut-at i l) (cut-order _ _ a b (all-each (λ i. meetsI (sideAt x i) (sideAt k i)) n i l e))
 
 -- a step decides by the image of its box
 pub step-is : (n : ℕ) (q : ℕ → Equation) (C : ℕ → ℕ → ℤ) (x : List Interval)

@@ -1,4 +1,5 @@
--- "At each step, every point of the box with fractions for coordinates has its exact Newton image inside the computed image."
+-- "At each step, every point of the box with fractions for coordinates has its exact Newton image inside the computed
+-- image."
 use mathlib.Core.Path.{_≡_, refl, ap, _∙_}
 use mathlib.Core.List.{List, [], _∷_}
 use Prim.Native.Nat.{ℕ, _*_, _-_, _≤_, _<_}
@@ -32,7 +33,8 @@ use Rattle.run.proofs.Newton.{scale-pos, den-pos, den-values, quotientN
 pub middleNum : (ℕ → Interval) → ℤ → ℕ → ℤ
 middleNum X d j = middleOf X j *ℤ d
 
-pub middle-in : (n : ℕ) (X : ℕ → Interval) {d : ℤ} → pos 0 <ℤ d → ((k : ℕ) → k < n → X k .lo ≤ℤ X k .hi) → InBox n (middleNum X d) d X
+pub middle-in : (n : ℕ) (X : ℕ → Interval) {d : ℤ} → pos 0 <ℤ d → ((k : ℕ) → k < n → X k .lo ≤ℤ X k .hi)
+    → InBox n (middleNum X d) d X
 unfolding middleNum midI
 middle-in n X p order = record {
   den = p;
@@ -47,7 +49,8 @@ middle-point : (n : ℕ) (X : ℕ → Interval) {d : ℤ} → pos 0 <ℤ d → I
 unfolding middleNum
 middle-point n X p = record { den = p; each = λ k l. hold-const (middleOf X k) p }
 
-module _ (n : ℕ) (q : ℕ → Equation) (C : ℕ → ℕ → ℤ) (X : ℕ → Interval) (degrees : (k : ℕ) → k < n → DegreesIn n (q k)) where
+module _ (n : ℕ) (q : ℕ → Equation) (C : ℕ → ℕ → ℤ) (X : ℕ → Interval)
+    (degrees : (k : ℕ) → k < n → DegreesIn n (q k)) where
   -- D = C F holds C f(m), the middle m over any denominator
   pub hold-middle : {d : ℤ} → pos 0 <ℤ d → (i : ℕ)
       → In (sumTo n (λ k. C i k *ℤ equationNum n (q k) (middleNum X d) d)) (newtonDen d) (dOf n C (valueOf n q C X) i)
@@ -78,7 +81,8 @@ module _ (n : ℕ) (q : ℕ → Equation) (C : ℕ → ℕ → ℤ) (X : ℕ →
       inside = middle-in n X (h .den) (λ k l. hold-order (h .each k l))
 
       place : (i : ℕ) → i < n → In (newtonNum n q C P d i) (newtonDen d) (imageOf n q C X i)
-      place i l = unfold imageOf in (rw whole (hold-add (hold-add (hold-const (middleOf X i) (den-pos (h .den))) (hold-neg (hold-middle (h .den) i))) third))
+      place i l = unfold imageOf in (rw whole (hold-add
+          (hold-add (hold-const (middleOf X i) (den-pos (h .den))) (hold-neg (hold-middle (h .den) i))) third))
         where
           CF : ℤ
           CF = sumTo n (λ k. C i k *ℤ equationNum n (q k) m d)
@@ -88,18 +92,21 @@ module _ (n : ℕ) (q : ℕ → Equation) (C : ℕ → ℕ → ℤ) (X : ℕ →
 
           turn : ((W *ℤ pos mark) *ℤ d) *ℤ pos mark ≡ newtonDen d
           turn = unfold newtonScale in
-              (ring (W ∷ d ∷ []) (λ w d. ((w ⊗ lit (pos mark)) ⊗ d) ⊗ lit (pos mark)) (λ w d. d ⊗ (lit (pos (mark * mark)) ⊗ w)) refl)
+              (ring (W ∷ d ∷ []) (λ w d. ((w ⊗ lit (pos mark)) ⊗ d) ⊗ lit (pos mark))
+              (λ w d. d ⊗ (lit (pos (mark * mark)) ⊗ w)) refl)
 
           third : In BZ (newtonDen d) (eOf n (bOf n C (slopeOf n q C X)) (offsetOf X) i)
           third = unfold middleNum in
               (rw turn at
               (hold-e n (bOf n C (slopeOf n q C X)) (offsetOf X) i (λ j. quotientNum n q C P m d i j) (λ j. P j -ℤ m j)
               (pos-mul (power-pos (degreeMax - 1) (units-pos (h .den))) (omega zorder)) (h .den)
-              (λ j u. hold-quotient h inside i j u) (λ j u. hold-add (h .each j u) (hold-neg (hold-const (middleOf X j) (h .den))))))
+              (λ j u. hold-quotient h inside i j u)
+              (λ j u. hold-add (h .each j u) (hold-neg (hold-const (middleOf X j) (h .den))))))
 
           start : newtonNum n q C m d i ≡ middleOf X i *ℤ newtonDen d +ℤ negℤ CF
           start = unfold newtonNum middleNum in
-              (ring (middleOf X i ∷ d ∷ newtonScale d ∷ CF ∷ []) (λ m d w f. (m ⊗ d) ⊗ w ⊖ f) (λ m d w f. m ⊗ (d ⊗ w) ⊕ neg f) refl)
+              (ring (middleOf X i ∷ d ∷ newtonScale d ∷ CF ∷ []) (λ m d w f. (m ⊗ d) ⊗ w ⊖ f)
+              (λ m d w f. m ⊗ (d ⊗ w) ⊕ neg f) refl)
 
           whole : newtonNum n q C P d i ≡ (middleOf X i *ℤ newtonDen d +ℤ negℤ CF) +ℤ BZ
           whole =
@@ -108,10 +115,12 @@ module _ (n : ℕ) (q : ℕ → Equation) (C : ℕ → ℕ → ℤ) (X : ℕ →
               ∙ ap (λ (z : ℤ). z +ℤ BZ) start
 
   -- so no zero of the box is lost, whatever inverse was proposed
-  pub image-keeps : {P : ℕ → ℤ} {d : ℤ} → InBox n P d X → ((k : ℕ) → k < n → equationNum n (q k) P d ≡ pos 0) → InBox n P d (imageOf n q C X)
+  pub image-keeps : {P : ℕ → ℤ} {d : ℤ} → InBox n P d X → ((k : ℕ) → k < n → equationNum n (q k) P d ≡ pos 0)
+      → InBox n P d (imageOf n q C X)
   image-keeps {P} {d} h zeros = record {
     den = h .den;
-    each = λ i l. hold-cancel (h .den) (scale-pos (h .den)) (rw (zero-newton n q C P d zeros i) at (image-holds h .each i l));
+    each = λ i l.
+        hold-cancel (h .den) (scale-pos (h .den)) (rw (zero-newton n q C P d zeros i) at (image-holds h .each i l));
   }
 
 -- the image as a box

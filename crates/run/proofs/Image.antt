@@ -61,7 +61,8 @@ module _ {n : ℕ} {q : ℕ → Equation} {C : ℕ → ℕ → ℤ} {X : ℕ →
         (made-s : s ≡ slopesOver n q X) where
       f-at : (k : ℕ) → k < n → sideAt f k ≡ valueOf n q C X k
       unfolding valuesOver
-      f-at k l = side-made n (h .box .places) (λ i. equationOver n (q i) (sideAt m)) made-f k l ∙ equation-cong n m-at (q k)
+      f-at k l =
+          side-made n (h .box .places) (λ i. equationOver n (q i) (sideAt m)) made-f k l ∙ equation-cong n m-at (q k)
 
       s-at : (i j : ℕ) → i < n → j < n → cellAt s i j ≡ slopeOf n q C X i j
       unfolding slopesOver slopeRow

@@ -1,4 +1,5 @@
--- An accepted job's equations, inverse and starting box are what a step takes, and the code's lists of them run as the job does.
+-- An accepted job's equations, inverse and starting box are what a step takes, and the code's lists of them run as the
+-- job does.
 use mathlib.Core.Path.{_≡_, refl, ap, ap₂, fun-ext}
 use mathlib.Core.List.{List, []}
 use Prim.Native.Nat.{ℕ, zero, suc, _+_, _<_}
@@ -47,12 +48,14 @@ module _ {j : Job} (a : Accepted j) where
     where
       by : (k : Kind) → ((i : ℕ) → i < j .head .n → GoodSystem k j i) → PartsIn k j
       by Kind.Poly g = record { each = λ i l. equation-in (j .head .n) (equationAt (j .system .eqs) i) (g i l) }
-      by Kind.Linear g = (λ i l. record { places = a .few; each = g i l .0 }, record { places = a .few; each = λ i l. g i l .1 })
+      by Kind.Linear g =
+          (λ i l. record { places = a .few; each = g i l .0 }, record { places = a .few; each = λ i l. g i l .1 })
       by Kind.Eigen g = λ i l. record { places = a .few; each = g i l }
 
   start-in : BoxIn (j .head .n) (sideAt (startOf j))
   unfolding startOf
-  start-in = record { places = a .few; each = λ k l. rw (side-made (j .head .n) (a .few) (startSide j) refl k l) (side k l) }
+  start-in =
+      record { places = a .few; each = λ k l. rw (side-made (j .head .n) (a .few) (startSide j) refl k l) (side k l) }
     where
       side : (k : ℕ) → k < j .head .n → InI endMax (startSide j k)
       side k l = record { order = a .ordered k l; low = a .low k l; high = a .high k l }
@@ -63,9 +66,11 @@ module _ (n : ℕ) {q r : ℕ → Equation} {C D : ℕ → ℕ → ℤ}
   image-cong : (X : ℕ → Interval) (i : ℕ) → i < n → imageOf n q C X i ≡ imageOf n r D X i
   unfolding imageOf
   image-cong X i l =
-      sum-of refl (d-cong n C D i (λ k m. entries i k l m) (λ k m. ap (λ e. equationOver n e (λ k. pointI (middleOf X k))) (equations k m)))
+      sum-of refl (d-cong n C D i (λ k m. entries i k l m)
+      (λ k m. ap (λ e. equationOver n e (λ k. pointI (middleOf X k))) (equations k m)))
       (e-cong n _ _ i
-      (λ k m. b-cong n C D i (λ k m. entries i k l m) (slopeOf n q C X) (slopeOf n r D X) k (λ t u. ap (λ e. slopeOver n e k X) (equations t u)))
+      (λ k m. b-cong n C D i (λ k m. entries i k l m) (slopeOf n q C X) (slopeOf n r D X) k
+      (λ t u. ap (λ e. slopeOver n e k X) (equations t u)))
       (λ k _. refl))
 
   step-cong : (x : List Interval) → stepOf n q C x ≡ stepOf n r D x
@@ -82,7 +87,8 @@ module _ (n : ℕ) {q r : ℕ → Equation} {C D : ℕ → ℕ → ℤ}
 
 -- the code's lists of an accepted job
 module _ (j : Job) (done : checkJob j ≡ Status.Done) {eqs : List Equation} {c : List (List ℤ)} {x : List Interval}
-    (made-eqs : eqs ≡ equationsOf j) (made-c : c ≡ tab nMax (j .head .n) (replicate nMax (pos 0)) (rowAt (j .inv))) (made-x : x ≡ startOf j) where
+    (made-eqs : eqs ≡ equationsOf j) (made-c : c ≡ tab nMax (j .head .n) (replicate nMax (pos 0)) (rowAt (j .inv)))
+    (made-x : x ≡ startOf j) where
   entry-at : (i k : ℕ) → i < j .head .n → entryAt c i k ≡ inverseOf j i k
   entry-at i k l =
       let row = getD-tab (replicate nMax (pos 0)) nMax (j .head .n) (rowAt (j .inv)) [] i l (check-done j done .few) in
@@ -98,11 +104,13 @@ module _ (j : Job) (done : checkJob j ≡ Status.Done) {eqs : List Equation} {c 
   pub outcome-made : runOf (j .head .n) (equationAt eqs) (entryAt c) (j .steps) 0 x ≡ outcomeOf j
   unfolding outcomeOf
   outcome-made =
-      rw made-x (run-cong (j .head .n) (λ i l. rw made-eqs (equations-at j (check-done j done .few) i l)) (λ i k l _. entry-at i k l) (j .steps) 0 (startOf j))
+      rw made-x (run-cong (j .head .n) (λ i l. rw made-eqs (equations-at j (check-done j done .few) i l))
+      (λ i k l _. entry-at i k l) (j .steps) 0 (startOf j))
 
 -- the two answers of a run
 module _ (j : Job) {r : Result} where
-  pub answer-done : checkJob j ≡ Status.Done → r ≡ resultOf j (outcomeOf j) → record { status = Status.Done; result = r } ≡ runJob j
+  pub answer-done : checkJob j ≡ Status.Done → r ≡ resultOf j (outcomeOf j)
+      → record { status = Status.Done; result = r } ≡ runJob j
   unfolding runJob
   answer-done e p = rw (e, p)
 

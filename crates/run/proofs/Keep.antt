@@ -16,12 +16,14 @@ use Rattle.run.specs.declared.Move.{Move}
 use Rattle.run.specs.Decide.{allMeet, cutBox, decideOf}
 use Rattle.run.proofs.Decisions.{zero-one, Decided, none, unique, stalled, next, decided}
 
-module _ {n : ℕ} (x k : List Interval) (box : BoxIn n (sideAt x)) (order : (i : ℕ) → i < n → sideAt k i .lo ≤ℤ sideAt k i .hi) where
+module _ {n : ℕ} (x k : List Interval) (box : BoxIn n (sideAt x))
+    (order : (i : ℕ) → i < n → sideAt k i .lo ≤ℤ sideAt k i .hi) where
   cut-in : allMeet n x k ≡ true → BoxIn n (sideAt (cutBox n x k))
   unfolding allMeet cutBox
   cut-in h = record {
     places = box .places;
-    each = λ i l. rw (getD-tab zeroI nMax n _ zeroI i l (box .places)) (in-cut (box .each i l) (order i l) (all-each _ n i l h));
+    each = λ i l.
+        rw (getD-tab zeroI nMax n _ zeroI i l (box .places)) (in-cut (box .each i l) (order i l) (all-each _ n i l h));
   }
 
   pub next-in : decideOf n x k .what ≡ Move.Next → BoxIn n (sideAt (decideOf n x k .sides))

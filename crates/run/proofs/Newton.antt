@@ -25,7 +25,8 @@ use Rattle.run.specs.Newton.{newtonScale, newtonDen, newtonNum}
 -- ---- denominators
 pub scale-pos : {d : ℤ} → pos 0 <ℤ d → pos 0 <ℤ newtonScale d
 unfolding newtonScale
-scale-pos {d} h = pos-mul {a = pos (mark * mark)} {b = power (unitsOf d) (degreeMax - 1)} (omega zorder) (power-pos (degreeMax - 1) (units-pos h))
+scale-pos {d} h = pos-mul {a = pos (mark * mark)} {b = power (unitsOf d) (degreeMax - 1)} (omega zorder)
+    (power-pos (degreeMax - 1) (units-pos h))
 
 pub den-pos : {d : ℤ} → pos 0 <ℤ d → pos 0 <ℤ newtonDen d
 den-pos h = pos-mul h (scale-pos h)
@@ -51,8 +52,10 @@ unit-sum (suc n) i f h = by (ℕ-discrete i n) (unit-sum n i f)
   where
     by : Dec (i ≡ n) → (i < n → sumTo n (λ j. unitZ i j *ℤ f j) ≡ pos (mark * mark) *ℤ f i)
         → sumTo n (λ j. unitZ i j *ℤ f j) +ℤ unitZ i n *ℤ f n ≡ pos (mark * mark) *ℤ f i
-    by (yes p) r = rw (unit-past n i f (omega arith), eq-eqb i n p, p) (ring ((pos (mark * mark) *ℤ f n) ∷ []) (λ x. lit (pos 0) ⊕ x) (λ x. x) refl)
-    by (no p) r = rw (r (omega arith), ne-eqb i n p, zero-*ℤ (f n)) (ring ((pos (mark * mark) *ℤ f i) ∷ []) (λ x. x ⊕ lit (pos 0)) (λ x. x) refl)
+    by (yes p) r = rw (unit-past n i f (omega arith), eq-eqb i n p, p)
+        (ring ((pos (mark * mark) *ℤ f n) ∷ []) (λ x. lit (pos 0) ⊕ x) (λ x. x) refl)
+    by (no p) r = rw (r (omega arith), ne-eqb i n p, zero-*ℤ (f n))
+        (ring ((pos (mark * mark) *ℤ f i) ∷ []) (λ x. x ⊕ lit (pos 0)) (λ x. x) refl)
 
 -- ---- the difference of two images
 module _ (n : ℕ) (q : ℕ → Equation) (C : ℕ → ℕ → ℤ) (P R : ℕ → ℤ) (d : ℤ) where
@@ -60,7 +63,8 @@ module _ (n : ℕ) (q : ℕ → Equation) (C : ℕ → ℕ → ℤ) (P R : ℕ �
   unfoldable pub quotientNum : ℕ → ℕ → ℤ
   quotientNum i j = unitZ i j *ℤ power (unitsOf d) (degreeMax - 1) -ℤ sumTo n (λ k. C i k *ℤ slopeNum n (q k) P R d j)
 
-  pub newton-diff : (i : ℕ) → i < n → newtonNum n q C P d i -ℤ newtonNum n q C R d i ≡ sumTo n (λ j. quotientNum i j *ℤ (P j -ℤ R j))
+  pub newton-diff : (i : ℕ)
+      → i < n → newtonNum n q C P d i -ℤ newtonNum n q C R d i ≡ sumTo n (λ j. quotientNum i j *ℤ (P j -ℤ R j))
   unfolding newtonNum newtonScale quotientNum
   newton-diff i l =
       ring (P i ∷ R i ∷ (pos (mark * mark) *ℤ W) ∷ sumTo n (value P) ∷ sumTo n (value R) ∷ [])
@@ -69,7 +73,8 @@ module _ (n : ℕ) (q : ℕ → Equation) (C : ℕ → ℕ → ℤ) (P R : ℕ �
       ∙ ap (λ (z : ℤ). z -ℤ sumTo n (λ j. row j *ℤ step j)) units
       ∙ sym (sum-sub n (λ j. unitZ i j *ℤ (W *ℤ step j)) (λ j. row j *ℤ step j))
       ∙ sum-cong n (λ j. unitZ i j *ℤ (W *ℤ step j) -ℤ row j *ℤ step j) (λ j. (unitZ i j *ℤ W -ℤ row j) *ℤ step j)
-      (λ j _. ring (unitZ i j ∷ W ∷ step j ∷ row j ∷ []) (λ u w x c. u ⊗ (w ⊗ x) ⊖ c ⊗ x) (λ u w x c. (u ⊗ w ⊖ c) ⊗ x) refl)
+      (λ j _.
+      ring (unitZ i j ∷ W ∷ step j ∷ row j ∷ []) (λ u w x c. u ⊗ (w ⊗ x) ⊖ c ⊗ x) (λ u w x c. (u ⊗ w ⊖ c) ⊗ x) refl)
     where
       W : ℤ
       W = power (unitsOf d) (degreeMax - 1)
@@ -94,9 +99,11 @@ module _ (n : ℕ) (q : ℕ → Equation) (C : ℕ → ℕ → ℤ) (P R : ℕ �
         where
           one : (k : ℕ) → value P k -ℤ value R k ≡ C i k *ℤ sumTo n (λ j. slope k j *ℤ step j)
           one k =
-              ring (C i k ∷ equationNum n (q k) P d ∷ equationNum n (q k) R d ∷ []) (λ c f g. c ⊗ f ⊖ c ⊗ g) (λ c f g. c ⊗ (f ⊖ g)) refl
+              ring (C i k ∷ equationNum n (q k) P d ∷ equationNum n (q k) R d ∷ []) (λ c f g. c ⊗ f ⊖ c ⊗ g)
+              (λ c f g. c ⊗ (f ⊖ g)) refl
               ∙ ap (λ (z : ℤ). C i k *ℤ z)
-              (slopes-law n (q k) P R d ∙ sum-cong n (λ j. step j *ℤ slope k j) (λ j. slope k j *ℤ step j) (λ j _. *ℤ-comm (step j) (slope k j)))
+              (slopes-law n (q k) P R d ∙ sum-cong n (λ j. step j *ℤ slope k j) (λ j. slope k j *ℤ step j)
+              (λ j _. *ℤ-comm (step j) (slope k j)))
 
       units : (P i -ℤ R i) *ℤ (pos (mark * mark) *ℤ W) ≡ sumTo n (λ j. unitZ i j *ℤ (W *ℤ step j))
       units =
@@ -104,11 +111,13 @@ module _ (n : ℕ) (q : ℕ → Equation) (C : ℕ → ℕ → ℤ) (P R : ℕ �
           ∙ sym (unit-sum n i (λ j. W *ℤ step j) l)
 
 -- a zero is its own Newton image
-pub zero-newton : (n : ℕ) (q : ℕ → Equation) (C : ℕ → ℕ → ℤ) (P : ℕ → ℤ) (d : ℤ) → ((k : ℕ) → k < n → equationNum n (q k) P d ≡ pos 0)
+pub zero-newton : (n : ℕ) (q : ℕ → Equation) (C : ℕ → ℕ → ℤ) (P : ℕ → ℤ) (d : ℤ)
+    → ((k : ℕ) → k < n → equationNum n (q k) P d ≡ pos 0)
     → (i : ℕ) → newtonNum n q C P d i ≡ P i *ℤ newtonScale d
 unfolding newtonNum
 zero-newton n q C P d zeros i =
-    ap (λ (s : ℤ). P i *ℤ newtonScale d -ℤ s) (sum-cong n (λ k. C i k *ℤ equationNum n (q k) P d) (λ k. pos 0) none ∙ sum-none n)
+    ap (λ (s : ℤ). P i *ℤ newtonScale d -ℤ s)
+    (sum-cong n (λ k. C i k *ℤ equationNum n (q k) P d) (λ k. pos 0) none ∙ sum-none n)
     ∙ ring ((P i *ℤ newtonScale d) ∷ []) (λ x. x ⊖ lit (pos 0)) (λ x. x) refl
   where
     none : (k : ℕ) → k < n → C i k *ℤ equationNum n (q k) P d ≡ pos 0

@@ -28,8 +28,10 @@ module _ (n : ℕ) (q : ℕ → Equation) (C : ℕ → ℕ → ℤ) where
   abbrev pub turned : ℕ → ℕ → Decision → Outcome
   turned allowance done d = settle (d .what) (d .sides) (done + 1) (runOf n q C (allowance - (done + 1)) (done + 1))
 
-  pub run-turn : (allowance done : ℕ) (x : List Interval) {k : List Interval} {d : Decision} {o : Outcome} → done < allowance
-      → k ≡ imageBox n q C x → d ≡ decideOf n x k → runOf n q C (allowance - done) done x ≡ o → o ≡ turned allowance done d
+  pub run-turn : (allowance done : ℕ) (x : List Interval) {k : List Interval} {d : Decision} {o : Outcome}
+      → done < allowance
+      → k ≡ imageBox n q C x → d ≡ decideOf n x k → runOf n q C (allowance - done) done x ≡ o
+      → o ≡ turned allowance done d
   unfolding runOf
   run-turn allowance done x {d = d} l e g h =
       let s : allowance - done ≡ suc (allowance - (done + 1)) = omega arith in

@@ -1,4 +1,5 @@
--- Document 01, "One Krawczyk step": what the image K decides on the box X. A box is a list of nMax intervals, those past n zero.
+-- Document 01, "One Krawczyk step": what the image K decides on the box X. A box is a list of nMax intervals, those
+-- past n zero.
 use mathlib.Core.Bool.{Bool, not, cond}
 use mathlib.Core.List.{List}
 use Prim.Native.Nat.{ℕ}

@@ -1,6 +1,8 @@
--- Document 01: "The exact Newton image of a fraction point p is p - C f(p), all in fractions, with f(p) the equations at p and no rounding."
--- Here p is P over d, counted in marks. The entries of C and the values f(p) are counted in marks too, and f(p) is `equationNum` over (65,536 d) to the
--- power of 3: so C f(p) is a sum of products over 65,536 times that, which is d times `newtonScale d`.
+-- Document 01: "The exact Newton image of a fraction point p is p - C f(p), all in fractions, with f(p) the equations
+-- at p and no rounding."
+-- Here p is P over d, counted in marks. The entries of C and the values f(p) are counted in marks too, and f(p) is
+-- `equationNum` over (65,536 d) to the power of 3: so C f(p) is a sum of products over 65,536 times that, which is d
+-- times `newtonScale d`.
 use Prim.Native.Nat.{ℕ, _*_, _-_}
 use lib.IntN.{ℤ, pos, _-ℤ_, _*ℤ_}
 use Rattle.sizes.specs.Sizes.{degreeMax}

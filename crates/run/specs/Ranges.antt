@@ -1,4 +1,5 @@
--- What the step's functions ask: a box within 4.0, equations and an inverse of document 01's sizes. A step keeps the box within them.
+-- What the step's functions ask: a box within 4.0, equations and an inverse of document 01's sizes. A step keeps the
+-- box within them.
 use Prim.Native.Nat.{ℕ, _<_, _≤_}
 use lib.IntN.{ℤ}
 use Rattle.sizes.specs.Sizes.{nMax, endMax, entryMax}

@@ -11,8 +11,10 @@ use Rattle.jobs.specs.declared.Equation.{Equation}
 abbrev pub middleOf : (ℕ → Interval) → ℕ → ℤ
 middleOf X k = midI (X k)
 
--- "3. D = C F", "4. B = I - C S", "5. Z = X - m. E = B Z", "6. Image K = m - D + E, ends exact", of the box M = [m, m], F and S
-abbrev pub imageFrom : ℕ → (ℕ → ℕ → ℤ) → (ℕ → Interval) → (ℕ → Interval) → (ℕ → Interval) → (ℕ → ℕ → Interval) → ℕ → Interval
+-- "3. D = C F", "4. B = I - C S", "5. Z = X - m. E = B Z", "6. Image K = m - D + E, ends exact", of the box M = [m, m],
+-- F and S
+abbrev pub imageFrom : ℕ → (ℕ → ℕ → ℤ) → (ℕ → Interval) → (ℕ → Interval) → (ℕ → Interval)
+    → (ℕ → ℕ → Interval) → ℕ → Interval
 imageFrom n C X M F S i = addI (addI (M i) (negI (dOf n C F i))) (eOf n (bOf n C S) (λ k. addI (X k) (negI (M k))) i)
 
 -- "Z = X - m."

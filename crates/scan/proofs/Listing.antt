@@ -20,8 +20,8 @@ use Rattle.text.proofs.Lists.{take-zeros}
 use Rattle.reading.specs.Places.{part}
 use Rattle.reading.proofs.Ends.{line-end}
 use Rattle.scan.specs.Fields.{isAt, Stops, OnlyNumber}
-use Rattle.scan.specs.Lines.{lineOf, endedAnd, noFeed, numbersOf, listedOf, placesOf, Ready, noList, ListFrom}
-use Rattle.scan.specs.declared.Listed.{Listed}
+use Rattle.scan.specs.Lines.{lineOf, endedAnd, noFeed, numbersAt, listAtOf, placesOf, Ready, noList, ListFrom}
+use Rattle.scan.specs.declared.ListAt.{ListAt}
 use Rattle.scan.proofs.Parts.{part-none}
 use Rattle.scan.proofs.Tests.{not-ended, is-ended}
 use Rattle.scan.proofs.Fields.{Steps, OnlyField, Onward, next-field, last-field, no-field, no-mark}
@@ -118,7 +118,7 @@ cut-none k h = ap (listed 0) (take-zeros k placesMax h)
 
 -- `count` numbers are read, and the next one begins at a
 pub record Inv (t : List ℕ) (from : ℕ) (old vals : List ℤ) (a count : ℕ) : Type 0 where
-  pub on : Onward numbers t from a (listed count vals) (cutTo (length old) (numbersOf [] t from))
+  pub on : Onward numbers t from a (listed count vals) (cutTo (length old) (numbersAt [] t from))
   pub inside : a ≤ length t
   pub few : count ≤ a
   pub long : length vals ≡ length old
@@ -145,14 +145,14 @@ begins t from vals h r =
 
 module _ {t : List ℕ} {from : ℕ} {old vals : List ℤ} {a count : ℕ} (inv : Inv t from old vals a count)
     {v : ℤ} {next : ℕ} (n : OnlyNumber t a v next) where
-  pub none-there : next ≡ a → endedAnd t from (numbersOf [] t from .ok) ≡ false
+  pub none-there : next ≡ a → endedAnd t from (numbersAt [] t from .ok) ≡ false
   none-there z =
-      not-ended t from (numbersOf [] t from .ok) (λ l. no-field numbers (inv .on) (number-field t a v next n) z)
+      not-ended t from (numbersAt [] t from .ok) (λ l. no-field numbers (inv .on) (number-field t a v next n) z)
 
   pub other-mark : isAt t next lineFeed ≡ false → isAt t next comma ≡ false
-      → endedAnd t from (numbersOf [] t from .ok) ≡ false
+      → endedAnd t from (numbersAt [] t from .ok) ≡ false
   other-mark y z =
-      not-ended t from (numbersOf [] t from .ok) (λ l. no-mark numbers (inv .on) (number-field t a v next n) y z l)
+      not-ended t from (numbersAt [] t from .ok) (λ l. no-mark numbers (inv .on) (number-field t a v next n) y z l)
 
   module _ (some : next ≡ a → ⊥) where
     pub again : isAt t next comma ≡ true → Inv t from old (set vals count v) (next + 1) (count + 1)
@@ -168,10 +168,10 @@ module _ {t : List ℕ} {from : ℕ} {old vals : List ℤ} {a count : ℕ} (inv 
 
     pub ends : isAt t next lineFeed ≡ true
         → ListFrom [] t from (record { ok = true; count = count + 1; next = next + 1 }) old (set vals count v)
-    unfolding putNumber listedOf placesOf
+    unfolding putNumber listAtOf placesOf
     ends z =
         let f = last-field numbers (inv .on) (number-field t a v next n) some z in
-        let y = is-ended t from (numbersOf [] t from .ok) (f .1) (sym (ap (λ (l : Numbers). l .ok) (f .2))) in
+        let y = is-ended t from (numbersAt [] t from .ok) (f .1) (sym (ap (λ (l : Numbers). l .ok) (f .2))) in
         record {
           answer =
               rw y
@@ -181,10 +181,10 @@ module _ {t : List ℕ} {from : ℕ} {old vals : List ℤ} {a count : ℕ} (inv 
         }
 
 -- the places are zero again, as many as they were
-pub no-list : {key t : List ℕ} {from : ℕ} {r : Listed} {old : List ℤ} (now : List ℤ) {vals : List ℤ}
-    → endedAnd t from (numbersOf key t from .ok) ≡ false → r ≡ noList
+pub no-list : {key t : List ℕ} {from : ℕ} {r : ListAt} {old : List ℤ} (now : List ℤ) {vals : List ℤ}
+    → endedAnd t from (numbersAt key t from .ok) ≡ false → r ≡ noList
     → length now ≡ length old → vals ≡ replicate (length now) (pos 0) → ListFrom key t from r old vals
-unfolding listedOf placesOf
+unfolding listAtOf placesOf
 no-list now z p l q = record { answer = rw z p; places = rw (z, ← l) q }
 
 -- ---- after the key
@@ -194,12 +194,12 @@ unfolding readList lastField addField addRead readNumber feeds
 nothing = refl
 
 module _ (t key : List ℕ) (from : ℕ) (h : from ≤ length t) where
-  pub other-key : startsWith key (drop from t) ≡ false → endedAnd t from (numbersOf key t from .ok) ≡ false
+  pub other-key : startsWith key (drop from t) ≡ false → endedAnd t from (numbersAt key t from .ok) ≡ false
   other-key n =
-      not-ended t from (numbersOf key t from .ok)
+      not-ended t from (numbersAt key t from .ok)
       (λ x. ap (λ (l : List ℕ). readList l .ok) (no-body t key from h n) ∙ nothing)
 
-  pub keyed : noFeed key ≡ true → startsWith key (drop from t) ≡ true → (r : Listed) (old vals : List ℤ)
+  pub keyed : noFeed key ≡ true → startsWith key (drop from t) ≡ true → (r : ListAt) (old vals : List ℤ)
       → ListFrom [] t (from + length key) r old vals → ListFrom key t from r old vals
   unfolding bodyOf startsWith
   keyed a y r old vals l =

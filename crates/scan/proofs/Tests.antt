@@ -1,13 +1,16 @@
 -- What the answers of tests say.
-use Prim.Native.Nat.{ℕ, _<_}
+use Prim.Native.Nat.{ℕ, _≤_, _<_}
 use mathlib.Core.Path.{_≡_, refl, sym}
 use mathlib.Core.List.{List}
-use mathlib.Core.Bool.{Bool, true, false, cond, not, true≢false, false≢true}
+use mathlib.Core.Bool.{Bool, true, false, cond, not, _&&_, true≢false, false≢true}
 use lib.ListN.{length, getD}
-use borrow.Author.Tests.{lt-ltb, le-ltb, eq-eqb, eqb-true}
+use lib.Dec.{leb}
+use borrow.Author.Tests.{lt-ltb, le-ltb, eq-eqb, eqb-true, le-leb, leb-true}
+use Rattle.digits.specs.Bytes.{digit0, digit9}
 use Rattle.digits.proofs.Cases.{either}
 use Rattle.reading.specs.Places.{lineEnd}
 use Rattle.scan.specs.Fields.{isAt}
+use Rattle.digits.specs.Digits.{isDigit}
 use Rattle.scan.specs.Lines.{endedAnd}
 
 pub no-not : (b : Bool) → not b ≡ true → b ≡ false
@@ -17,6 +20,20 @@ no-not false e = refl
 pub yes-not : (b : Bool) → not b ≡ false → b ≡ true
 yes-not true e = refl
 yes-not false e = sym e
+
+both : (a b : Bool) → (a && b) ≡ true → (a ≡ true) × (b ≡ true)
+both true b e = (refl, e)
+both false b e = absurd (false≢true e)
+
+pub digit-yes : (b : ℕ) → isDigit b ≡ true → (digit0 ≤ b) × (b ≤ digit9)
+unfolding isDigit
+digit-yes b e =
+    let p = both (leb digit0 b) (leb b digit9) e in
+    (leb-true digit0 b (p .0), leb-true b digit9 (p .1))
+
+pub digit-no : (b : ℕ) → isDigit b ≡ false → digit0 ≤ b → b ≤ digit9 → ⊥
+unfolding isDigit
+digit-no b e p q = true≢false (rw (le-leb digit0 b p, le-leb b digit9 q) at e)
 
 module _ (t : List ℕ) (i b : ℕ) where
   pub at-yes : isAt t i b ≡ true → (i < length t) × (getD t i 0 ≡ b)

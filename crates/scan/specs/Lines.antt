@@ -15,7 +15,7 @@ use Rattle.text.specs.Keys.{sameBytes, bodyOf}
 use Rattle.text.specs.Lists.{placesMax, readList}
 use Rattle.text.specs.declared.Count.{Count}
 use Rattle.text.specs.declared.Numbers.{Numbers}
-use Rattle.scan.specs.declared.Listed.{Listed}
+use Rattle.scan.specs.declared.ListAt.{ListAt}
 use Rattle.scan.specs.declared.CountAt.{CountAt}
 use Rattle.reading.specs.Places.{part, lineEnd}
 
@@ -40,15 +40,15 @@ pub record Ready (vals : List ℤ) : Type 0 where
   pub zero : vals ≡ replicate (length vals) (pos 0)
 
 -- the numbers that stand after the key
-abbrev pub numbersOf : List ℕ → List ℕ → ℕ → Numbers
-numbersOf key t a = readList (bodyOf key (lineOf t a))
+abbrev pub numbersAt : List ℕ → List ℕ → ℕ → Numbers
+numbersAt key t a = readList (bodyOf key (lineOf t a))
 
-abbrev pub noList : Listed
+abbrev pub noList : ListAt
 noList = record { ok = false; count = 0; next = 0 }
 
-unfoldable pub listedOf : Bool → Numbers → ℕ → Listed
-listedOf true l e = record { ok = true; count = l .count; next = e + 1 }
-listedOf false l e = noList
+unfoldable pub listAtOf : Bool → Numbers → ℕ → ListAt
+listAtOf true l e = record { ok = true; count = l .count; next = e + 1 }
+listAtOf false l e = noList
 
 -- as many of the numbers as there are places
 unfoldable pub placesOf : Bool → Numbers → ℕ → List ℤ
@@ -56,9 +56,9 @@ placesOf true l k = take k (l .vals)
 placesOf false l k = replicate k (pos 0)
 
 -- what is told of the line that begins at a, and what its places, `old`, then hold
-pub record ListFrom (key t : List ℕ) (a : ℕ) (r : Listed) (old vals : List ℤ) : Type 0 where
-  pub answer : r ≡ listedOf (endedAnd t a (numbersOf key t a .ok)) (numbersOf key t a) (lineEnd t a)
-  pub places : vals ≡ placesOf (endedAnd t a (numbersOf key t a .ok)) (numbersOf key t a) (length old)
+pub record ListFrom (key t : List ℕ) (a : ℕ) (r : ListAt) (old vals : List ℤ) : Type 0 where
+  pub answer : r ≡ listAtOf (endedAnd t a (numbersAt key t a .ok)) (numbersAt key t a) (lineEnd t a)
+  pub places : vals ≡ placesOf (endedAnd t a (numbersAt key t a .ok)) (numbersAt key t a) (length old)
 
 -- ---- one number
 

@@ -8,6 +8,7 @@ ghost use lib.IntN.{pos, negℤ};
 ghost use Rattle.digits.specs.Number.{digitsMax};
 ghost use Rattle.scan.specs.Fields.{isAt, digitsAt, OnlyMagnitude, OnlyNumber};
 use digits::DIGITS;
+use digits::is_digit;
 use text::Count;
 
 // A number with no sign and the place after it, `from` itself where none is spelled.
@@ -23,7 +24,7 @@ pub struct NumberAt {
 }
 
 // A line's numbers: whether it is well spelled, how many there are, and where the next line begins.
-pub struct Listed {
+pub struct ListAt {
     pub ok: bool,
     pub count: usize,
     pub next: usize,
@@ -73,10 +74,7 @@ fn magnitude_at(s: &[u8], from: usize) -> MagnitudeAt
     let mut i = from + 1;
     while i < stop {
         let b = s[i];
-        if b < b'0' {
-            return MagnitudeAt { m, next: i };
-        }
-        if b'9' < b {
+        if !is_digit(b) {
             return MagnitudeAt { m, next: i };
         }
         m = m * 10 + (b - b'0') as u32;

@@ -1,5 +1,5 @@
--- "With these sizes every sum of products below fits a signed 64-bit number", and can be rounded up: the last product of
--- a term, then the sums of D, B and E.
+-- "With these sizes every sum of products below fits a signed 64-bit number", and can be rounded up: the last product
+-- of a term, then the sums of D, B and E.
 use Prim.Native.Nat.{_+_, _*_, _≤_}
 use lib.Dec.{lit≤}
 use Rattle.sizes.specs.Sizes.{mark, nMax, endMax, entryMax}

@@ -1,5 +1,5 @@
--- How large the parts of a step can be, from the sizes. An end is at most 4.0, so that each product makes a bound 4 times
--- as large.
+-- How large the parts of a step can be, from the sizes. An end is at most 4.0, so that each product makes a bound 4
+-- times as large.
 use Prim.Native.Nat.{ℕ, _+_, _*_, _^_}
 use Rattle.sizes.specs.Sizes.{mark, nMax, termsMax, endMax, entryMax, degreeMax}
 

@@ -21,9 +21,11 @@ module _ (c : ℤ) (e : ℕ → ℕ) (X : ℕ → Interval) where
   unfolding termOver
   term-none = carry-none (pointI c) (λ k a. factorI (e k) a (X k))
 
-  pub term-more : (k : ℕ) {m : ℕ} {a r : Interval} → r ≡ factorI m a (X k) → m ≡ e k → a ≡ termOver k c e X → r ≡ termOver (k + 1) c e X
+  pub term-more : (k : ℕ) {m : ℕ} {a r : Interval} → r ≡ factorI m a (X k)
+      → m ≡ e k → a ≡ termOver k c e X → r ≡ termOver (k + 1) c e X
   unfolding termOver
-  term-more k {a = a} p q h = p ∙ ap (λ (m : ℕ). factorI m a (X k)) q ∙ carry-more (pointI c) (λ k a. factorI (e k) a (X k)) k h
+  term-more k {a = a} p q h =
+      p ∙ ap (λ (m : ℕ). factorI m a (X k)) q ∙ carry-more (pointI c) (λ k a. factorI (e k) a (X k)) k h
 
   pub term-done : {k n : ℕ} {a : Interval} → k ≤ n → n ≤ k → a ≡ termOver k c e X → a ≡ termOver n c e X
   term-done h k p = rw (← le-antisymm h k) p

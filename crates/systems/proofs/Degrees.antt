@@ -33,7 +33,8 @@ module _ (e : ℕ → ℕ) where
   pub degree-mono : (k n : ℕ) → k ≤ n → degree k e ≤ degree n e
   unfolding degree carry
   degree-mono k zero h = rw (le-antisymm h (omega arith)) (le-refl _)
-  degree-mono k (suc n) h = ⊎-elim (λ q. rw q (le-refl _)) (λ l. le-trans (degree-mono k n (le-of-suc-le-suc l)) (omega arith)) (eq-or-lt-of-le h)
+  degree-mono k (suc n) h = ⊎-elim (λ q. rw q (le-refl _))
+      (λ l. le-trans (degree-mono k n (le-of-suc-le-suc l)) (omega arith)) (eq-or-lt-of-le h)
 
   -- an exponent is at most the degree
   pub exponent-degree : (n j : ℕ) → j < n → e j ≤ degree n e
@@ -43,7 +44,8 @@ module _ (e : ℕ → ℕ) where
   pub degree-lowered : (n j : ℕ) → j < n → 0 < e j → degree n (lowered j e) + 1 ≡ degree n e
   unfolding degree carry
   degree-lowered zero j l s = absurd (not-suc-le-zero l)
-  degree-lowered (suc n) j l s = ⊎-elim here (λ m. there m (degree-lowered n j m s)) (eq-or-lt-of-le (le-of-suc-le-suc l))
+  degree-lowered (suc n) j l s =
+      ⊎-elim here (λ m. there m (degree-lowered n j m s)) (eq-or-lt-of-le (le-of-suc-le-suc l))
     where
       below : j ≡ n → degree n (lowered j e) ≡ degree n e
       below q = degree-cong n (lowered j e) e (λ k m. lowered-other j e k (λ p. omega arith))
@@ -51,5 +53,6 @@ module _ (e : ℕ → ℕ) where
       here : j ≡ n → degree n (lowered j e) + lowered j e n + 1 ≡ degree n e + e n
       here q = rw (← q) (omega (arith, rw (← q) at (below q), lowered-same j e))
 
-      there : j < n → degree n (lowered j e) + 1 ≡ degree n e → degree n (lowered j e) + lowered j e n + 1 ≡ degree n e + e n
+      there : j < n → degree n (lowered j e) + 1 ≡ degree n e
+          → degree n (lowered j e) + lowered j e n + 1 ≡ degree n e + e n
       there m r = omega (arith, lowered-other j e n (λ p. omega arith))

@@ -34,15 +34,18 @@ abbrev point12 : ℕ → ℤ
 point12 k = getD (pos 65536 ∷ pos 131072 ∷ []) k (pos 0)
 
 -- "both equations are 0"
-pub t12 : (equationNum 2 (equationOf job12 0) point12 (pos 1) ≡ pos 0) × (equationNum 2 (equationOf job12 1) point12 (pos 1) ≡ pos 0)
+pub t12 : (equationNum 2 (equationOf job12 0) point12 (pos 1) ≡ pos 0)
+    × (equationNum 2 (equationOf job12 1) point12 (pos 1) ≡ pos 0)
 unfolding equationNum equationOf eigenEquation vectorE unitE termNum degree power sumTo tab carry
 t12 = (refl, refl)
 
 -- one equation: a(1,1) - L, where L in marks is 65,536 times unknown 1
 pub one-eigen : (a : ℤ) (P : ℕ → ℤ) (d : ℤ)
-    → equationNum 1 (equationOf (eigenJob 1 (record { at = a ∷ [] } ∷ [])) 0) P d ≡ (a *ℤ unitsOf d -ℤ pos mark *ℤ P 0) *ℤ power (unitsOf d) (degreeMax - 1)
+    → equationNum 1 (equationOf (eigenJob 1 (record { at = a ∷ [] } ∷ [])) 0) P d
+    ≡ (a *ℤ unitsOf d -ℤ pos mark *ℤ P 0) *ℤ power (unitsOf d) (degreeMax - 1)
 unfolding equationNum equationOf eigenEquation vectorE unitE termNum degree power sumTo tab carry
 one-eigen a P d =
     ring (a ∷ P 0 ∷ unitsOf d ∷ pos mark ∷ [])
-    (λ a p u m. lit (pos 0) ⊕ (a ⊗ lit (pos 1)) ⊗ (((lit (pos 1) ⊗ u) ⊗ u) ⊗ u) ⊕ (neg m ⊗ (lit (pos 1) ⊗ p)) ⊗ ((lit (pos 1) ⊗ u) ⊗ u))
+    (λ a p u m. lit (pos 0) ⊕ (a ⊗ lit (pos 1)) ⊗ (((lit (pos 1) ⊗ u) ⊗ u) ⊗ u)
+    ⊕ (neg m ⊗ (lit (pos 1) ⊗ p)) ⊗ ((lit (pos 1) ⊗ u) ⊗ u))
     (λ a p u m. (a ⊗ u ⊖ m ⊗ p) ⊗ ((lit (pos 1) ⊗ u) ⊗ u)) refl

@@ -55,7 +55,8 @@ module _ (n : ℕ) (a : ℕ → ℤ) (b : ℤ) (t : ℕ) where
   pub row-last : n ≤ t → rowCoef n a b t ≡ negℤ b
   row-last l = rw (le-ltb t n l)
 
-pub same-term : {c d : ℤ} {e f : List ℕ} → c ≡ d → e ≡ f → _≡_ {A = Term} (record { coef = c; exps = e }) (record { coef = d; exps = f })
+pub same-term : {c d : ℤ} {e f : List ℕ}
+    → c ≡ d → e ≡ f → _≡_ {A = Term} (record { coef = c; exps = e }) (record { coef = d; exps = f })
 same-term p q = ap₂ (λ (c : ℤ) (e : List ℕ). record { coef = c; exps = e }) p q
 
 pub unit-small : (t k : ℕ) → unitE t k ≤ 1

@@ -60,7 +60,8 @@ prod-same (suc e) w x h =
     cc
 
 -- k of x, then l of y
-pub prod-two : (k l : ℕ) (x y : ℤ) (w : ℕ → ℤ) → ((i : ℕ) → w i ≡ cond (ltb i k) x y) → prodTo (k + l) w ≡ power x k *ℤ power y l
+pub prod-two : (k l : ℕ) (x y : ℤ) (w : ℕ → ℤ) → ((i : ℕ) → w i ≡ cond (ltb i k) x y)
+    → prodTo (k + l) w ≡ power x k *ℤ power y l
 unfolding prodTo power
 prod-two k zero x y w h = rw (add-zero k, times-one (power x k)) (prod-same k w x (λ i l. h i ∙ rw (lt-ltb i k l)))
 prod-two k (suc l) x y w h = rw (add-suc, prod-two k l x y w h, last) (*ℤ-assoc (power x k) (power y l) y)
@@ -68,9 +69,11 @@ prod-two k (suc l) x y w h = rw (add-suc, prod-two k l x y w h, last) (*ℤ-asso
     last : w (k + l) ≡ y
     last = let le : k ≤ k + l = omega arith in h (k + l) ∙ rw (le-ltb (k + l) k le)
 
--- ---- a factor holds the products of any members of its unknown: the one law that says how the powers of an unknown are formed
+-- ---- a factor holds the products of any members of its unknown: the one law that says how the powers of an unknown
+-- are formed
 module _ {u U d : ℤ} {A X : Interval} (h : In u U A) where
-  pub hold-factor : (e : ℕ) (w : ℕ → ℤ) → ((i : ℕ) → i < e → In (w i) d X) → In (u *ℤ prodTo e w) (U *ℤ power (unitsOf d) e) (factorI e A X)
+  pub hold-factor : (e : ℕ) (w : ℕ → ℤ) → ((i : ℕ) → i < e → In (w i) d X)
+      → In (u *ℤ prodTo e w) (U *ℤ power (unitsOf d) e) (factorI e A X)
   unfolding prodTo power factorI carry
   hold-factor zero w k = rw (times-one u, times-one U) h
   hold-factor (suc e) w k =

@@ -1,4 +1,5 @@
--- Document 01, "The three kinds": "At every fraction point the built equations equal these formulas exactly." Their terms have degree 1 and 2 at most.
+-- Document 01, "The three kinds": "At every fraction point the built equations equal these formulas exactly." Their
+-- terms have degree 1 and 2 at most.
 use mathlib.Core.Path.{_≡_, refl, sym, ap, subst, _∙_}
 use mathlib.Core.Bool.{false, cond}
 use mathlib.Core.List.{[], _∷_}
@@ -26,9 +27,11 @@ use Rattle.jobs.specs.declared.Equation.{Equation}
 use Rattle.jobs.specs.declared.Job.{Job}
 use Rattle.systems.specs.Terms.{coefOf, expsOf}
 use Rattle.systems.specs.Fractions.{unitsOf, power, DegreesIn, equationNum}
-use Rattle.systems.specs.Kinds.{unitE, vectorE, eigenE, rowCoef, build, linearEquation, eigenEquation, pinned, rowOf, equationBy, equationOf}
+use Rattle.systems.specs.Kinds.{unitE, vectorE, eigenE, rowCoef, build, linearEquation}
+use Rattle.systems.specs.Kinds.{eigenEquation, pinned, rowOf, equationBy, equationOf}
 use Rattle.systems.specs.Formulas.{linearNum, coordinate, eigenNum, formulaBy, formulaNum}
-use Rattle.systems.proofs.Monomials.{Monomial, mono-one, mono-unit, mono-cong, mono-add, mono-raise, unit-below, Exact, exact, exact-cong}
+use Rattle.systems.proofs.Monomials.{Monomial, mono-one, mono-unit, mono-cong, mono-add}
+use Rattle.systems.proofs.Monomials.{mono-raise, unit-below, Exact, exact, exact-cong}
 
 sum-more : (n : ℕ) (f : ℕ → ℤ) → sumTo (n + 1) f ≡ sumTo n f +ℤ f n
 unfolding sumTo
@@ -46,7 +49,8 @@ module _ (n : ℕ) (room : n ≤ nMax) (a : ℕ → ℤ) (b : ℤ) (e : ℕ → 
   q = build n coefs e
 
   built-term : (t : ℕ) → t < n + 1 → getD (q .terms) t noTerm ≡ record { coef = coefs t; exps = tab nMax n 0 (e t) }
-  built-term t l = getD-tab _ termsMax (n + 1) (λ t. record { coef = coefs t; exps = tab nMax n 0 (e t) }) noTerm t l (omega arith)
+  built-term t l =
+      getD-tab _ termsMax (n + 1) (λ t. record { coef = coefs t; exps = tab nMax n 0 (e t) }) noTerm t l (omega arith)
 
   pub built-coef : (t : ℕ) → t < n + 1 → coefOf q t ≡ coefs t
   built-coef t l = ap (λ (r : Term). r .coef) (built-term t l)
@@ -72,7 +76,8 @@ module _ (n : ℕ) (room : n ≤ nMax) (a : ℕ → ℤ) (b : ℤ) (e : ℕ → 
           by (yes p) = subst (λ (s : ℕ). Monomial n (e s) k (value s)) (sym p) end
           by (no p) = let below : t < n = omega arith in rw (lt-ltb t n below) (row t below)
 
-      sums : (P : ℕ → ℤ) (d : ℤ) → sumTo (n + 1) (λ t. coefOf q t *ℤ value t P d) ≡ sumTo n (λ t. a t *ℤ y t P d) +ℤ negℤ b *ℤ z P d
+      sums : (P : ℕ → ℤ) (d : ℤ)
+          → sumTo (n + 1) (λ t. coefOf q t *ℤ value t P d) ≡ sumTo n (λ t. a t *ℤ y t P d) +ℤ negℤ b *ℤ z P d
       sums P d = sum-more n f ∙ rw (sum-cong n f (λ t. a t *ℤ y t P d) early, final)
         where
           f : ℕ → ℤ
@@ -89,7 +94,8 @@ module _ (n : ℕ) (room : n ≤ nMax) (a : ℕ → ℤ) (b : ℤ) where
   pub linear-exact : Exact n (linearEquation n a b) 1 (λ P d. sumTo n (λ j. a j *ℤ P j) +ℤ negℤ b *ℤ unitsOf d)
   unfolding linearEquation
   linear-exact =
-      built n room a b unitE (λ t P d. P t) (λ P d. unitsOf d) (omega arith) (λ t l. mono-unit l) (mono-one (unit-below (omega arith)))
+      built n room a b unitE (λ t P d. P t) (λ P d. unitsOf d) (omega arith) (λ t l. mono-unit l)
+      (mono-one (unit-below (omega arith)))
 
   pub linear-is : (P : ℕ → ℤ) (d : ℤ) → equationNum n (linearEquation n a b) P d ≡ linearNum n a b P d
   unfolding linearNum
@@ -120,7 +126,8 @@ module _ (n p : ℕ) (room : n ≤ nMax) (pin : p < n) (a : ℕ → ℤ) (i : �
       (λ P d. sumTo n (λ j. a j *ℤ (coordinate p P d j *ℤ unitsOf d)) +ℤ negℤ (pos mark) *ℤ (P p *ℤ coordinate p P d i))
   unfolding eigenEquation
   eigen-exact =
-      built n room a (pos mark) (eigenE n p i) (λ t P d. coordinate p P d t *ℤ unitsOf d) (λ P d. P p *ℤ coordinate p P d i) (omega arith) row last
+      built n room a (pos mark) (eigenE n p i) (λ t P d. coordinate p P d t *ℤ unitsOf d)
+      (λ P d. P p *ℤ coordinate p P d i) (omega arith) row last
     where
       row : (t : ℕ) → t < n → Monomial n (eigenE n p i t) 2 (λ P d. coordinate p P d t *ℤ unitsOf d)
       row t h = mono-cong (λ k _. rw (lt-ltb t n h)) (mono-raise (mono-vector t h))
@@ -133,19 +140,23 @@ module _ (n p : ℕ) (room : n ≤ nMax) (pin : p < n) (a : ℕ → ℤ) (i : �
   eigen-is P d =
       eigen-exact .num P d
       ∙ ap (λ (s : ℤ). (s +ℤ negℤ (pos mark) *ℤ (P p *ℤ coordinate p P d i)) *ℤ power (unitsOf d) (degreeMax - 2)) sums
-      ∙ ring ((sumTo n (λ j. a j *ℤ coordinate p P d j) *ℤ unitsOf d) ∷ pos mark ∷ (P p *ℤ coordinate p P d i) ∷ power (unitsOf d) (degreeMax - 2) ∷ [])
+      ∙ ring ((sumTo n (λ j. a j *ℤ coordinate p P d j) *ℤ unitsOf d) ∷ pos mark ∷ (P p *ℤ coordinate p P d i)
+      ∷ power (unitsOf d) (degreeMax - 2) ∷ [])
       (λ s m x w. (s ⊕ neg m ⊗ x) ⊗ w) (λ s m x w. (s ⊖ m ⊗ x) ⊗ w) refl
     where
-      sums : sumTo n (λ j. a j *ℤ (coordinate p P d j *ℤ unitsOf d)) ≡ sumTo n (λ j. a j *ℤ coordinate p P d j) *ℤ unitsOf d
+      sums : sumTo n (λ j. a j *ℤ (coordinate p P d j *ℤ unitsOf d))
+          ≡ sumTo n (λ j. a j *ℤ coordinate p P d j) *ℤ unitsOf d
       sums =
           sum-cong n (λ j. a j *ℤ (coordinate p P d j *ℤ unitsOf d)) (λ j. (a j *ℤ coordinate p P d j) *ℤ unitsOf d)
           (λ j _. sym (*ℤ-assoc (a j) (coordinate p P d j) (unitsOf d)))
           ∙ sum-mul-r n (unitsOf d) (λ j. a j *ℤ coordinate p P d j)
 
--- the formula as document 01 writes it, with the last coordinate set to 1: "the sum of a(i,j) x(j) over j < n, plus a(i,n), minus L x(i)"
+-- the formula as document 01 writes it, with the last coordinate set to 1: "the sum of a(i,j) x(j) over j < n, plus
+-- a(i,n), minus L x(i)"
 pub eigen-last : (m : ℕ) (a : ℕ → ℤ) (i : ℕ) (P : ℕ → ℤ) (d : ℤ)
     → eigenNum (suc m) m a i P d
-    ≡ ((sumTo m (λ j. a j *ℤ P j) +ℤ a m *ℤ unitsOf d) *ℤ unitsOf d -ℤ pos mark *ℤ (P m *ℤ coordinate m P d i)) *ℤ power (unitsOf d) (degreeMax - 2)
+    ≡ ((sumTo m (λ j. a j *ℤ P j) +ℤ a m *ℤ unitsOf d) *ℤ unitsOf d -ℤ pos mark *ℤ (P m *ℤ coordinate m P d i))
+    *ℤ power (unitsOf d) (degreeMax - 2)
 unfolding eigenNum sumTo
 eigen-last m a i P d = rw (sum-cong m (λ j. a j *ℤ coordinate m P d j) (λ j. a j *ℤ P j) early, coordinate-one m P d)
   where
@@ -164,11 +175,19 @@ module _ (j : Job) (room : j .head .n ≤ nMax) (i : ℕ) (l : i < j .head .n) w
       by Kind.Eigen = eigen-is (j .head .n) (pinned j) room (omega arith) (rowOf j i) i l P d
 
   -- a given polynomial's degrees are its own
-  pub equation-degrees : (j .head .kind ≡ Kind.Poly → DegreesIn (j .head .n) (equationBy Kind.Poly j i)) → DegreesIn (j .head .n) (equationOf j i)
+  pub equation-degrees : (j .head .kind ≡ Kind.Poly → DegreesIn (j .head .n) (equationBy Kind.Poly j i))
+      → DegreesIn (j .head .n) (equationOf j i)
   unfolding equationOf
   equation-degrees given = by (j .head .kind) given
     where
-      by : (k : Kind) → (k ≡ Kind.Poly → DegreesIn (j .head .n) (equationBy Kind.Poly j i)) → DegreesIn (j .head .n) (equationBy k j i)
+      by : (k : Kind) → (k ≡ Kind.Poly → DegreesIn (j .head .n) (equationBy Kind.Poly j i))
+          → DegreesIn (j .head .n) (equationBy k j i)
       by Kind.Poly h = h refl
-      by Kind.Linear h = record { each = λ t u. omega (arith, linear-exact (j .head .n) room (rowOf j i) (numberAt (j .system .right) i) .deg t u) }
-      by Kind.Eigen h = record { each = λ t u. omega (arith, eigen-exact (j .head .n) (pinned j) room (omega arith) (rowOf j i) i l .deg t u) }
+      by Kind.Linear h = record {
+        each = λ t u.
+            omega (arith, linear-exact (j .head .n) room (rowOf j i) (numberAt (j .system .right) i) .deg t u);
+      }
+      by Kind.Eigen h = record {
+        each = λ t u.
+            omega (arith, eigen-exact (j .head .n) (pinned j) room (omega arith) (rowOf j i) i l .deg t u);
+      }

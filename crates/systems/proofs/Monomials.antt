@@ -39,7 +39,8 @@ module _ (P : ℕ → ℤ) where
   term-coef zero c e = sym (times-one c)
   term-coef (suc n) c e = rw (term-coef n c e) (*ℤ-assoc c (termNum n (pos 1) e P) (power (P n) (e n)))
 
-  term-add : (n : ℕ) (e f : ℕ → ℕ) → termNum n (pos 1) (λ i. e i + f i) P ≡ termNum n (pos 1) e P *ℤ termNum n (pos 1) f P
+  term-add : (n : ℕ) (e f : ℕ → ℕ)
+      → termNum n (pos 1) (λ i. e i + f i) P ≡ termNum n (pos 1) e P *ℤ termNum n (pos 1) f P
   unfolding termNum
   term-add zero e f = refl
   term-add (suc n) e f =
@@ -61,8 +62,10 @@ unfolding termNum
 term-unit P zero t l = absurd (not-suc-le-zero l)
 term-unit P (suc n) t l = by (ℕ-discrete n t) (term-unit P n t)
   where
-    by : Dec (n ≡ t) → (t < n → termNum n (pos 1) (unitE t) P ≡ P t) → termNum n (pos 1) (unitE t) P *ℤ power (P n) (unitE t n) ≡ P t
-    by (yes p) r = rw (term-none P n (pos 1) (unitE t) (unit-below (omega arith)), unit-here t n p, power-one (P n)) (one-*ℤ (P n) ∙ ap P p)
+    by : Dec (n ≡ t) → (t < n → termNum n (pos 1) (unitE t) P ≡ P t)
+        → termNum n (pos 1) (unitE t) P *ℤ power (P n) (unitE t n) ≡ P t
+    by (yes p) r = rw (term-none P n (pos 1) (unitE t) (unit-below (omega arith)), unit-here t n p, power-one (P n))
+        (one-*ℤ (P n) ∙ ap P p)
     by (no p) r = rw (r (omega arith), unit-other t n p) (unfold power in (times-one (P t)))
 
 degree-unit : (n t : ℕ) → t < n → degree n (unitE t) ≡ 1
@@ -91,7 +94,8 @@ module _ {n : ℕ} where
     num = λ P d. rw (term-unit P n t l, degree-unit n t l) (times-one (P t));
   }
 
-  pub mono-cong : {e f : ℕ → ℕ} {k : ℕ} {z : (ℕ → ℤ) → ℤ → ℤ} → ((i : ℕ) → i < n → e i ≡ f i) → Monomial n f k z → Monomial n e k z
+  pub mono-cong : {e f : ℕ → ℕ} {k : ℕ} {z : (ℕ → ℤ) → ℤ → ℤ} → ((i : ℕ) → i < n → e i ≡ f i)
+      → Monomial n f k z → Monomial n e k z
   mono-cong {e} {f} h m = record {
     deg = rw (degree-cong n e f h) (m .deg);
     num = λ P d. rw (term-cong P n (pos 1) e f h, degree-cong n e f h) (m .num P d);
@@ -103,14 +107,17 @@ module _ {n : ℕ} where
   mono-add {e} {f} {k} {l} {y} {z} a b = record {
     deg = omega (arith, degree-add n e f, a .deg, b .deg);
     num = λ P d.
-        let split : k + l - degree n (λ i. e i + f i) ≡ (k - degree n e) + (l - degree n f) = omega (arith, degree-add n e f, a .deg, b .deg) in
+        let split : k + l - degree n (λ i. e i + f i) ≡ (k - degree n e) + (l - degree n f) =
+        omega (arith, degree-add n e f, a .deg, b .deg) in
         rw (term-add P n e f, power-add (unitsOf d) (k - degree n e) (l - degree n f) split, ← a .num P d, ← b .num P d)
-        (ring (termNum n (pos 1) e P ∷ termNum n (pos 1) f P ∷ power (unitsOf d) (k - degree n e) ∷ power (unitsOf d) (l - degree n f) ∷ [])
+        (ring (termNum n (pos 1) e P ∷ termNum n (pos 1) f P ∷ power (unitsOf d) (k - degree n e)
+        ∷ power (unitsOf d) (l - degree n f) ∷ [])
         (λ s t x y. (s ⊗ t) ⊗ (x ⊗ y)) (λ s t x y. (s ⊗ x) ⊗ (t ⊗ y)) refl);
   }
 
   -- the same, over one power more
-  pub mono-raise : {e : ℕ → ℕ} {k : ℕ} {z : (ℕ → ℤ) → ℤ → ℤ} → Monomial n e k z → Monomial n e (k + 1) (λ P d. z P d *ℤ unitsOf d)
+  pub mono-raise : {e : ℕ → ℕ} {k : ℕ} {z : (ℕ → ℤ) → ℤ → ℤ}
+      → Monomial n e k z → Monomial n e (k + 1) (λ P d. z P d *ℤ unitsOf d)
   mono-raise {e} {k} m = record {
     deg = omega (arith, m .deg);
     num = λ P d.
@@ -126,30 +133,39 @@ pub record Exact (n : ℕ) (q : Equation) (k : ℕ) (v : (ℕ → ℤ) → ℤ �
   pub num : (P : ℕ → ℤ) (d : ℤ) → equationNum n q P d ≡ v P d *ℤ power (unitsOf d) (degreeMax - k)
 
 -- where the monomial of each term t is z t
-pub exact : {n : ℕ} (q : Equation) {k : ℕ} (z : ℕ → (ℕ → ℤ) → ℤ → ℤ) → k ≤ degreeMax → ((t : ℕ) → t < q .count → Monomial n (expsOf q t) k (z t))
+pub exact : {n : ℕ} (q : Equation) {k : ℕ} (z : ℕ → (ℕ → ℤ) → ℤ → ℤ)
+    → k ≤ degreeMax → ((t : ℕ) → t < q .count → Monomial n (expsOf q t) k (z t))
     → Exact n q k (λ P d. sumTo (q .count) (λ t. coefOf q t *ℤ z t P d))
 exact {n} q {k} z cubic m = record {
   deg = λ t l. m t l .deg;
   num = whole;
 }
   where
-    whole : (P : ℕ → ℤ) (d : ℤ) → equationNum n q P d ≡ sumTo (q .count) (λ t. coefOf q t *ℤ z t P d) *ℤ power (unitsOf d) (degreeMax - k)
+    whole : (P : ℕ → ℤ) (d : ℤ)
+        → equationNum n q P d ≡ sumTo (q .count) (λ t. coefOf q t *ℤ z t P d) *ℤ power (unitsOf d) (degreeMax - k)
     whole P d = unfold equationNum in (
-        sum-cong (q .count) (λ t. termNum n (coefOf q t) (expsOf q t) P *ℤ raised n q d t) (λ t. (coefOf q t *ℤ z t P d) *ℤ rest) one
+        sum-cong (q .count) (λ t. termNum n (coefOf q t) (expsOf q t) P *ℤ raised n q d t)
+        (λ t. (coefOf q t *ℤ z t P d) *ℤ rest) one
         ∙ sum-mul-r (q .count) rest (λ t. coefOf q t *ℤ z t P d))
       where
         rest : ℤ
         rest = power (unitsOf d) (degreeMax - k)
 
-        one : (t : ℕ) → t < q .count → termNum n (coefOf q t) (expsOf q t) P *ℤ raised n q d t ≡ (coefOf q t *ℤ z t P d) *ℤ rest
+        one : (t : ℕ)
+            → t < q .count → termNum n (coefOf q t) (expsOf q t) P *ℤ raised n q d t ≡ (coefOf q t *ℤ z t P d) *ℤ rest
         one t l =
             let g = degree n (expsOf q t) in
             let split : degreeMax - g ≡ (k - g) + (degreeMax - k) = omega (arith, m t l .deg) in
-            rw (term-coef P n (coefOf q t) (expsOf q t), power-add (unitsOf d) (k - g) (degreeMax - k) split, ← m t l .num P d)
+            rw (
+              term-coef P n (coefOf q t) (expsOf q t),
+              power-add (unitsOf d) (k - g) (degreeMax - k) split,
+              ← m t l .num P d,
+            )
             (ring (coefOf q t ∷ termNum n (pos 1) (expsOf q t) P ∷ power (unitsOf d) (k - g) ∷ rest ∷ [])
             (λ c m x y. (c ⊗ m) ⊗ (x ⊗ y)) (λ c m x y. (c ⊗ (m ⊗ x)) ⊗ y) refl)
 
-pub exact-cong : {n : ℕ} {q : Equation} {k : ℕ} {v w : (ℕ → ℤ) → ℤ → ℤ} → ((P : ℕ → ℤ) (d : ℤ) → v P d ≡ w P d) → Exact n q k v → Exact n q k w
+pub exact-cong : {n : ℕ} {q : Equation} {k : ℕ} {v w : (ℕ → ℤ) → ℤ → ℤ} → ((P : ℕ → ℤ) (d : ℤ) → v P d ≡ w P d)
+    → Exact n q k v → Exact n q k w
 exact-cong {k = k} h x = record {
   deg = x .deg;
   num = λ P d. x .num P d ∙ ap (λ (s : ℤ). s *ℤ power (unitsOf d) (degreeMax - k)) (h P d);

@@ -1,4 +1,5 @@
--- How large terms, equations and slopes can be: with document 01's sizes no sum leaves 64 bits. The bounds do not depend on n.
+-- How large terms, equations and slopes can be: with document 01's sizes no sum leaves 64 bits. The bounds do not
+-- depend on n.
 use mathlib.Core.Path.{_≡_, refl, ap, _∙_}
 use mathlib.Core.List.{[]}
 use Prim.Native.Nat.{ℕ, zero, suc, _+_, _*_, _^_, _<_, _≤_}
@@ -13,14 +14,16 @@ use Rattle.sizes.specs.Sizes.{termsMax, endMax, entryMax, degreeMax}
 use Rattle.lists.specs.Loops.{carry}
 use Rattle.intervals.specs.Interval.{sumI}
 use Rattle.intervals.specs.Ranges.{InI, FitsAdd, FitsTimes, FitsScale}
-use Rattle.intervals.proofs.Ranges.{in-zero, in-point, in-more, in-mul, in-scale, in-sum, fits-add, fits-times, fits-scale}
+use Rattle.intervals.proofs.Ranges.{in-zero, in-point, in-more, in-mul, in-scale}
+use Rattle.intervals.proofs.Ranges.{in-sum, fits-add, fits-times, fits-scale}
 use Rattle.intervals.specs.Places.{sideAt}
 use Rattle.jobs.specs.Terms.{degree}
 use Rattle.sizes.proofs.Sums.{term-room}
 use Rattle.sizes.specs.Bounds.{upMax, termMax, loweredMax, valueMax, partMax, slopeMax}
 use Rattle.intervals.specs.declared.Interval.{Interval}
 use Rattle.jobs.specs.declared.Equation.{Equation}
-use Rattle.systems.specs.Terms.{coefOf, expsOf, factorI, termOver, equationOver, lowered, termSlope, slopeOver, valuesOver, slopesOver}
+use Rattle.systems.specs.Terms.{coefOf, expsOf, factorI, termOver, equationOver, lowered}
+use Rattle.systems.specs.Terms.{termSlope, slopeOver, valuesOver, slopesOver}
 use Rattle.systems.specs.Ranges.{BoxIn, TermIn, EquationIn, SystemIn, FactorIn, grow}
 use Rattle.systems.proofs.Cases.{term-next, slope-none, slope-some}
 use Rattle.systems.proofs.Exponents.{lowered-at}
@@ -80,7 +83,8 @@ module _ {n : ℕ} {X : ℕ → Interval} (box : BoxIn n X) where
     in-first zero l = unfold termOver carry in (in-point (h .coef))
     in-first (suc k) l =
         rw (term-next c e X k)
-        (in-more (le-of-eq (grow-add (e k) (degree k e) entryMax)) (in-factor (e k) (in-first k (omega arith)) (box .each k l)))
+        (in-more (le-of-eq (grow-add (e k) (degree k e) entryMax))
+        (in-factor (e k) (in-first k (omega arith)) (box .each k l)))
 
     -- what the term asks at unknown k
     pub term-factor : (k : ℕ) → k < n → FactorIn (e k) (termOver k c e X) (X k)
@@ -98,10 +102,12 @@ module _ {n : ℕ} {X : ℕ → Interval} (box : BoxIn n X) where
     in-lowered : 0 < e j → InI loweredMax (termOver n c (lowered j e) X)
     in-lowered s =
         let d = degree-lowered e n j l s in
-        in-more (lowered-cap (degree n (lowered j e)) (omega (arith, h .deg))) (in-first (lowered-in j l s h) n (le-refl n))
+        in-more (lowered-cap (degree n (lowered j e)) (omega (arith, h .deg)))
+        (in-first (lowered-in j l s h) n (le-refl n))
 
     -- what the lowered term asks at unknown k
-    pub lowered-factor : 0 < e j → (k : ℕ) → k < n → {d : ℕ} {a : Interval} → a ≡ termOver k c (lowered j e) X → d ≡ lowered j (λ _. e k) k → FactorIn d a (X k)
+    pub lowered-factor : 0 < e j → (k : ℕ) → k < n → {d : ℕ} {a : Interval}
+        → a ≡ termOver k c (lowered j e) X → d ≡ lowered j (λ _. e k) k → FactorIn d a (X k)
     lowered-factor s k m p q = rw (p, q ∙ lowered-at j e k) (term-factor (lowered-in j l s h) k m)
 
     pub slope-fits : 0 < e j → FitsScale (e j) (termOver n c (lowered j e) X)
@@ -112,7 +118,8 @@ module _ {n : ℕ} {X : ℕ → Interval} (box : BoxIn n X) where
       where
         by : Dec (e j ≡ 0) → InI partMax (termSlope n c e j X)
         by (yes p) = rw (slope-none c e X n j p) in-zero
-        by (no p) = rw (slope-some c e X n j p) (in-more (omega (arith, exponent-degree e n j l, h .deg)) (in-scale (e j) (in-lowered (pos-of-ne-zero p))))
+        by (no p) = rw (slope-some c e X n j p)
+            (in-more (omega (arith, exponent-degree e n j l, h .deg)) (in-scale (e j) (in-lowered (pos-of-ne-zero p))))
 
   module _ {q : Equation} (h : EquationIn n q) where
     pub in-equation : InI valueMax (equationOver n q X)
@@ -120,7 +127,8 @@ module _ {n : ℕ} {X : ℕ → Interval} (box : BoxIn n X) where
     in-equation = in-total (h .count) (λ t m. in-term (h .each t m)) (q .count) (le-refl _)
 
     -- what the sum asks at term t
-    pub equation-fits : (t : ℕ) → t < q .count → FitsAdd (sumI t (λ k. termOver n (coefOf q k) (expsOf q k) X)) (termOver n (coefOf q t) (expsOf q t) X)
+    pub equation-fits : (t : ℕ) → t < q .count
+        → FitsAdd (sumI t (λ k. termOver n (coefOf q k) (expsOf q k) X)) (termOver n (coefOf q t) (expsOf q t) X)
     equation-fits t l = total-fits (h .count) (λ k m. in-term (h .each k m)) (lit< tt) t l
 
     module _ (j : ℕ) (l : j < n) where
@@ -128,7 +136,8 @@ module _ {n : ℕ} {X : ℕ → Interval} (box : BoxIn n X) where
       unfolding slopeOver
       in-slope = in-total (h .count) (λ t m. in-part (h .each t m) j l) (q .count) (le-refl _)
 
-      pub slope-sum-fits : (t : ℕ) → t < q .count → FitsAdd (sumI t (λ k. termSlope n (coefOf q k) (expsOf q k) j X)) (termSlope n (coefOf q t) (expsOf q t) j X)
+      pub slope-sum-fits : (t : ℕ) → t < q .count → FitsAdd (sumI t (λ k. termSlope n (coefOf q k) (expsOf q k) j X))
+          (termSlope n (coefOf q t) (expsOf q t) j X)
       slope-sum-fits t m = total-fits (h .count) (λ k m. in-part (h .each k m) j l) (lit< tt) t m
 
   -- F and S, place by place

@@ -26,14 +26,17 @@ module _ {ℓ} {A : Type ℓ} (d : A) where
   unfolding tab
   tab-same zero n f h = refl
   tab-same (suc m) zero f h = refl
-  tab-same (suc m) (suc n) f h = ap₂ (λ (a : A) (t : List A). a ∷ t) (h zero) (tab-same m n (λ i. f (suc i)) (λ k. h (suc k)))
+  tab-same (suc m) (suc n) f h =
+      ap₂ (λ (a : A) (t : List A). a ∷ t) (h zero) (tab-same m n (λ i. f (suc i)) (λ k. h (suc k)))
 
   -- one live place is changed
-  tab-put : (m n : ℕ) (f g : ℕ → A) (j : ℕ) → j < n → ((k : ℕ) → (k ≡ j → ⊥) → f k ≡ g k) → set (tab m n d f) j (g j) ≡ tab m n d g
+  tab-put : (m n : ℕ) (f g : ℕ → A) (j : ℕ) → j < n → ((k : ℕ) → (k ≡ j → ⊥) → f k ≡ g k)
+      → set (tab m n d f) j (g j) ≡ tab m n d g
   unfolding tab
   tab-put zero n f g j l h = refl
   tab-put (suc m) zero f g j l h = absurd (not-suc-le-zero l)
-  tab-put (suc m) (suc n) f g zero l h = ap (λ (t : List A). g zero ∷ t) (tab-cong d m n _ _ (λ i _. h (suc i) (λ e. omega arith)))
+  tab-put (suc m) (suc n) f g zero l h =
+      ap (λ (t : List A). g zero ∷ t) (tab-cong d m n _ _ (λ i _. h (suc i) (λ e. omega arith)))
   tab-put (suc m) (suc n) f g (suc j) l h =
       ap₂ (λ (a : A) (t : List A). a ∷ t) (h zero (λ e. omega arith))
       (tab-put m n (λ i. f (suc i)) (λ i. g (suc i)) j (le-of-suc-le-suc l) (λ k p. h (suc k) (λ e. p (omega arith))))
@@ -50,7 +53,8 @@ pub row-none : (n : ℕ) (g : ℕ → ℕ → Interval) → replicate nMax zeroI
 unfolding sumI carry
 row-none n g = tab-same zeroI nMax n (λ m. sumI 0 (g m)) (λ k. refl)
 
-pub row-done : (n : ℕ) (g : ℕ → ℕ → Interval) {i count : ℕ} {s : List Interval} → i ≤ count → count ≤ i → s ≡ totals n g i → s ≡ totals n g count
+pub row-done : (n : ℕ) (g : ℕ → ℕ → Interval) {i count : ℕ} {s : List Interval}
+    → i ≤ count → count ≤ i → s ≡ totals n g i → s ≡ totals n g count
 row-done n g h k e = rw (← le-antisymm h k) e
 
 module _ (n : ℕ) (g : ℕ → ℕ → Interval) (i : ℕ) where
@@ -91,7 +95,8 @@ module _ (n : ℕ) (g : ℕ → ℕ → Interval) (i : ℕ) where
       row-read room = side-made n room (sums j) e j l ∙ lacks j j (le-refl j)
 
       pub row-put : {v : Interval} → v ≡ sumI (i + 1) (g j) → set s j v ≡ partly (j + 1)
-      row-put p = rw (e, p ∙ sym (has (j + 1) j (omega arith))) (tab-put zeroI nMax n (sums j) (sums (j + 1)) j l (other j))
+      row-put p =
+          rw (e, p ∙ sym (has (j + 1) j (omega arith))) (tab-put zeroI nMax n (sums j) (sums (j + 1)) j l (other j))
 
       -- a summand of zero changes nothing
       pub row-keep : g j i ≡ zeroI → s ≡ partly (j + 1)
@@ -99,4 +104,5 @@ module _ (n : ℕ) (g : ℕ → ℕ → Interval) (i : ℕ) where
         where
           at : (m : ℕ) → Dec (m ≡ j) → sums j m ≡ sums (j + 1) m
           at m (no ne) = other j m ne
-          at m (yes p) = rw p (lacks j j (le-refl j) ∙ sumI-more (g j) i (add-none (sumI i (g j))) refl (sym z) ∙ sym (has (j + 1) j (omega arith)))
+          at m (yes p) = rw p (lacks j j (le-refl j) ∙ sumI-more (g j) i (add-none (sumI i (g j))) refl (sym z)
+              ∙ sym (has (j + 1) j (omega arith)))

@@ -1,5 +1,6 @@
--- Slopes hold difference quotients: between two fraction points P and R of a box, over one denominator, the difference of an equation's exact
--- values is the sum of the differences of the coordinates, each times a number that lies in the slope over the box.
+-- Slopes hold difference quotients: between two fraction points P and R of a box, over one denominator, the difference
+-- of an equation's exact values is the sum of the differences of the coordinates, each times a number that lies in the
+-- slope over the box.
 use mathlib.Core.Path.{_≡_, refl, sym, ap, _∙_}
 use mathlib.Core.Bool.{cond}
 use mathlib.Core.List.{[], _∷_}
@@ -31,24 +32,30 @@ use Rattle.systems.proofs.Walk.{member, member-in, summand, part, walk}
 -- ---- a term: what its walk multiplies a difference by lies in its slope
 module _ {n : ℕ} {P R : ℕ → ℤ} {d : ℤ} {X : ℕ → Interval} (h : InBox n P d X) (k : InBox n R d X) where
   hold-slope : (c : ℤ) (e : ℕ → ℕ) → degree n e ≤ degreeMax → (j : ℕ) → j < n
-      → In (part c e P R n j *ℤ power (unitsOf d) (degreeMax - degree n e)) (power (unitsOf d) (degreeMax - 1)) (termSlope n c e j X)
+      → In (part c e P R n j *ℤ power (unitsOf d) (degreeMax - degree n e)) (power (unitsOf d) (degreeMax - 1))
+      (termSlope n c e j X)
   unfolding termSlope sumTo
   hold-slope c e cubic j l = by (ℕ-discrete (e j) 0)
     where
       Q>0 : pos 0 <ℤ unitsOf d
       Q>0 = units-pos (h .den)
 
-      each : (i : ℕ) → i < e j → In (summand c e P R n j i) (power (unitsOf d) (degree n (lowered j e))) (termOver n c (lowered j e) X)
-      each i _ = hold-mono n c (lowered j e) (member j i P R) (λ a b f _. member-in j i P R a f (h .each a b) (k .each a b))
+      each : (i : ℕ) → i < e j
+          → In (summand c e P R n j i) (power (unitsOf d) (degree n (lowered j e))) (termOver n c (lowered j e) X)
+      each i _ =
+          hold-mono n c (lowered j e) (member j i P R) (λ a b f _. member-in j i P R a f (h .each a b) (k .each a b))
 
       by : Dec (e j ≡ 0)
           → In (part c e P R n j *ℤ power (unitsOf d) (degreeMax - degree n e)) (power (unitsOf d) (degreeMax - 1))
           (cond (eqb (e j) 0) zeroI (scaleI (e j) (termOver n c (lowered j e) X)))
-      by (yes p) = rw (eq-eqb (e j) 0 p, p, zero-*ℤ (power (unitsOf d) (degreeMax - degree n e))) (hold-zero (power-pos (degreeMax - 1) Q>0))
+      by (yes p) = rw (eq-eqb (e j) 0 p, p, zero-*ℤ (power (unitsOf d) (degreeMax - degree n e)))
+          (hold-zero (power-pos (degreeMax - 1) Q>0))
       by (no p) =
-          let less : degreeMax - 1 ≡ degree n (lowered j e) + (degreeMax - degree n e) = omega (arith, degree-lowered e n j l (omega arith)) in
+          let less : degreeMax - 1 ≡ degree n (lowered j e) + (degreeMax - degree n e) =
+          omega (arith, degree-lowered e n j l (omega arith)) in
           rw (ne-eqb (e j) 0 p, power-add (unitsOf d) (degree n (lowered j e)) (degreeMax - degree n e) less)
-          (hold-raise (hold-times (e j) (summand c e P R n j) (power-pos (degree n (lowered j e)) Q>0) each) (power-pos (degreeMax - degree n e) Q>0))
+          (hold-raise (hold-times (e j) (summand c e P R n j) (power-pos (degree n (lowered j e)) Q>0) each)
+          (power-pos (degreeMax - degree n e) Q>0))
 
 -- ---- an equation
 module _ (n : ℕ) (q : Equation) (P R : ℕ → ℤ) (d : ℤ) where
@@ -89,5 +96,6 @@ module _ (n : ℕ) (q : Equation) (P R : ℕ → ℤ) (d : ℤ) where
       → (j : ℕ) → j < n → In (slopeNum j) (power (unitsOf d) (degreeMax - 1)) (slopeOver n q j X)
   unfolding slopeNum slopeOver
   slopes-hold {X} g h k j l =
-      hold-sum (q .count) (full j) (λ t. termSlope n (coefOf q t) (expsOf q t) j X) (power-pos (degreeMax - 1) (units-pos (h .den)))
+      hold-sum (q .count) (full j) (λ t. termSlope n (coefOf q t) (expsOf q t) j X)
+      (power-pos (degreeMax - 1) (units-pos (h .den)))
       (λ t u. hold-slope h k (coefOf q t) (expsOf q t) (g .each t u) j l)

@@ -15,7 +15,8 @@ use Rattle.intervals.specs.Places.{numberAt}
 use Rattle.jobs.specs.declared.Kind.{Kind}
 use Rattle.jobs.specs.declared.Job.{Job}
 use Rattle.systems.specs.Terms.{coefOf}
-use Rattle.systems.specs.Kinds.{unitE, eigenE, rowCoef, build, linearEquation, eigenEquation, rowOf, pinned, equationBy, equationOf, equationsOf}
+use Rattle.systems.specs.Kinds.{unitE, eigenE, rowCoef, build, linearEquation, eigenEquation}
+use Rattle.systems.specs.Kinds.{rowOf, pinned, equationBy, equationOf, equationsOf}
 use Rattle.systems.specs.Ranges.{EquationIn, SystemIn, EntriesIn, PartsIn, JobIn}
 use Rattle.systems.specs.Fractions.{DegreesIn}
 use Rattle.systems.proofs.Exponents.{row-entry, row-last}
@@ -58,7 +59,8 @@ system-in {j} h = record { each = λ i l. by (j .head .kind) refl i l }
         linear : PartsIn Kind.Linear j → EquationIn (j .head .n) (equationBy Kind.Linear j i)
         linear p =
             let d = linear-exact (j .head .n) (h .places) (rowOf j i) (numberAt (j .system .right) i) in
-            unfold linearEquation in (built-in unitE (p .0 i l) (p .1 .each i l) (record { each = λ t u. omega (arith, d .deg t u) }))
+            unfold linearEquation in
+            (built-in unitE (p .0 i l) (p .1 .each i l) (record { each = λ t u. omega (arith, d .deg t u) }))
     by Kind.Eigen e i l = rw (equation-by j e i) (eigen (parts-by j e h))
       where
         eigen : PartsIn Kind.Eigen j → EquationIn (j .head .n) (equationBy Kind.Eigen j i)
@@ -66,10 +68,12 @@ system-in {j} h = record { each = λ i l. by (j .head .kind) refl i l }
             let some = h .some in
             let d = eigen-exact (j .head .n) (pinned j) (h .places) (omega arith) (rowOf j i) i l in
             unfold eigenEquation in
-            (built-in (eigenE (j .head .n) (pinned j) i) (p i l) (within-lit (pos mark) entryMax tt) (record { each = λ t u. omega (arith, d .deg t u) }))
+            (built-in (eigenE (j .head .n) (pinned j) i) (p i l) (within-lit (pos mark) entryMax tt)
+            (record { each = λ t u. omega (arith, d .deg t u) }))
 
 -- what `equations` returns, read by its places
-pub equations-at : (j : Job) → j .head .n ≤ nMax → (i : ℕ) → i < j .head .n → equationAt (equationsOf j) i ≡ equationOf j i
+pub equations-at : (j : Job) → j .head .n ≤ nMax → (i : ℕ)
+    → i < j .head .n → equationAt (equationsOf j) i ≡ equationOf j i
 equations-at j room i l = getD-tab zeroEquation nMax (j .head .n) (equationOf j) noEquation i l room
 
 pub equations-in : {j : Job} → JobIn j → SystemIn (j .head .n) (equationAt (equationsOf j))

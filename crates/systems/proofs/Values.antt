@@ -49,17 +49,21 @@ module _ {n : ℕ} {P : ℕ → ℤ} {d : ℤ} {X : ℕ → Interval} (h : InBox
   -- the exact value of a term
   pub hold-term : (c : ℤ) (e : ℕ → ℕ) → In (termNum n c e P) (power (unitsOf d) (degree n e)) (termOver n c e X)
   hold-term c e =
-      rw (← mono-term n c e e (λ k i. P k) P (λ k _. refl) (λ k _ i. refl)) (hold-mono n c e (λ k i. P k) (λ k l i _. h .each k l))
+      rw (← mono-term n c e e (λ k i. P k) P (λ k _. refl) (λ k _ i. refl))
+      (hold-mono n c e (λ k i. P k) (λ k l i _. h .each k l))
 
   -- the exact value of an equation
-  pub hold-equation : (q : Equation) → DegreesIn n q → In (equationNum n q P d) (power (unitsOf d) degreeMax) (equationOver n q X)
+  pub hold-equation : (q : Equation)
+      → DegreesIn n q → In (equationNum n q P d) (power (unitsOf d) degreeMax) (equationOver n q X)
   unfolding equationNum equationOver
   hold-equation q g =
-      hold-sum (q .count) (λ t. termNum n (coefOf q t) (expsOf q t) P *ℤ raised n q d t) (λ t. termOver n (coefOf q t) (expsOf q t) X)
+      hold-sum (q .count) (λ t. termNum n (coefOf q t) (expsOf q t) P *ℤ raised n q d t)
+      (λ t. termOver n (coefOf q t) (expsOf q t) X)
       (power-pos degreeMax (units-pos (h .den))) one
     where
       one : (t : ℕ) → t < q .count
-          → In (termNum n (coefOf q t) (expsOf q t) P *ℤ raised n q d t) (power (unitsOf d) degreeMax) (termOver n (coefOf q t) (expsOf q t) X)
+          → In (termNum n (coefOf q t) (expsOf q t) P *ℤ raised n q d t) (power (unitsOf d) degreeMax)
+          (termOver n (coefOf q t) (expsOf q t) X)
       one t l =
           let left = degreeMax - degree n (expsOf q t) in
           rw (power-add (unitsOf d) (degree n (expsOf q t)) left {m = degreeMax} (omega (arith, g .each t l)))

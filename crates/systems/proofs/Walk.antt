@@ -1,5 +1,5 @@
--- The walk from a point R to a point P, one coordinate at a time: the difference of a term's values is the sum of the differences of the coordinates,
--- each times a sum of products of members.
+-- The walk from a point R to a point P, one coordinate at a time: the difference of a term's values is the sum of the
+-- differences of the coordinates, each times a sum of products of members.
 use mathlib.Core.Path.{_≡_, refl, sym, ap, _∙_}
 use mathlib.Core.Bool.{Bool, true, false, cond}
 use mathlib.Core.List.{[], _∷_}
@@ -28,7 +28,8 @@ quotient a x y = sumTo a (λ i. power x i *ℤ power y (a - 1 - i))
 quotient-more : (a : ℕ) (x y : ℤ) → quotient (suc a) x y ≡ y *ℤ quotient a x y +ℤ power x a
 unfolding quotient sumTo
 quotient-more a x y =
-    ap (λ (z : ℤ). z +ℤ power x a *ℤ power y (suc a - 1 - a)) (sum-cong a (mixed (suc a)) (λ i. y *ℤ mixed a i) early ∙ sum-mul a y (mixed a))
+    ap (λ (z : ℤ). z +ℤ power x a *ℤ power y (suc a - 1 - a))
+    (sum-cong a (mixed (suc a)) (λ i. y *ℤ mixed a i) early ∙ sum-mul a y (mixed a))
     ∙ ap (λ (z : ℤ). y *ℤ sumTo a (mixed a) +ℤ z) last
   where
     mixed : ℕ → ℕ → ℤ
@@ -38,7 +39,8 @@ quotient-more a x y =
     early i l =
         let less : suc a - 1 - i ≡ suc (a - 1 - i) = omega arith in
         ap (λ (k : ℕ). power x i *ℤ power y k) less
-        ∙ unfold power in (ring (power x i ∷ power y (a - 1 - i) ∷ y ∷ []) (λ p r y. p ⊗ (r ⊗ y)) (λ p r y. y ⊗ (p ⊗ r)) refl)
+        ∙ unfold power in
+        (ring (power x i ∷ power y (a - 1 - i) ∷ y ∷ []) (λ p r y. p ⊗ (r ⊗ y)) (λ p r y. y ⊗ (p ⊗ r)) refl)
 
     last : power x a *ℤ power y (suc a - 1 - a) ≡ power x a
     last =
@@ -51,7 +53,8 @@ quotient-law zero x y = ring (x ∷ y ∷ []) (λ x y. lit (pos 1) ⊖ lit (pos 
 quotient-law (suc a) x y =
     ring (power x a ∷ power y a ∷ x ∷ y ∷ []) (λ p r x y. p ⊗ x ⊖ r ⊗ y) (λ p r x y. (p ⊖ r) ⊗ y ⊕ p ⊗ (x ⊖ y)) refl
     ∙ ap (λ (z : ℤ). z *ℤ y +ℤ power x a *ℤ (x -ℤ y)) (quotient-law a x y)
-    ∙ ring (x ∷ y ∷ quotient a x y ∷ power x a ∷ []) (λ x y g p. ((x ⊖ y) ⊗ g) ⊗ y ⊕ p ⊗ (x ⊖ y)) (λ x y g p. (x ⊖ y) ⊗ (y ⊗ g ⊕ p)) refl
+    ∙ ring (x ∷ y ∷ quotient a x y ∷ power x a ∷ []) (λ x y g p. ((x ⊖ y) ⊗ g) ⊗ y ⊕ p ⊗ (x ⊖ y))
+    (λ x y g p. (x ⊖ y) ⊗ (y ⊗ g ⊕ p)) refl
     ∙ ap (λ (z : ℤ). (x -ℤ y) *ℤ z) (sym (quotient-more a x y))
 
 -- ---- members on the way from R to P: P's before unknown j, R's after it, and of unknown j first i of P's
@@ -97,7 +100,8 @@ module _ (c : ℤ) (e : ℕ → ℕ) (P R : ℕ → ℤ) where
   part-more : (n j : ℕ) → j < n → part (suc n) j ≡ part n j *ℤ power (R n) (e n)
   unfolding monoTo
   part-more n j h =
-      sum-cong (e j) (summand (suc n) j) (λ i. summand n j i *ℤ power (R n) (e n)) (λ i _. ap (λ (z : ℤ). summand n j i *ℤ z) (last i))
+      sum-cong (e j) (summand (suc n) j) (λ i. summand n j i *ℤ power (R n) (e n))
+      (λ i _. ap (λ (z : ℤ). summand n j i *ℤ z) (last i))
       ∙ sum-mul-r (e j) (power (R n) (e n)) (summand n j)
     where
       last : (i : ℕ) → prodTo (lowered j e n) (member j i P R n) ≡ power (R n) (e n)
@@ -110,7 +114,8 @@ module _ (c : ℤ) (e : ℕ → ℕ) (P R : ℕ → ℤ) where
   unfolding monoTo quotient
   part-last n =
       sum-cong (e n) (summand (suc n) n) (λ i. termNum n c e P *ℤ mixed i)
-      (λ i l. ap (λ (z : ℤ). z *ℤ prodTo (lowered n e n) (member n i P R n)) (early i) ∙ ap (λ (z : ℤ). termNum n c e P *ℤ z) (last i l))
+      (λ i l. ap (λ (z : ℤ). z *ℤ prodTo (lowered n e n) (member n i P R n)) (early i)
+      ∙ ap (λ (z : ℤ). termNum n c e P *ℤ z) (last i l))
       ∙ sum-mul (e n) (termNum n c e P) mixed
     where
       mixed : ℕ → ℤ
@@ -119,7 +124,8 @@ module _ (c : ℤ) (e : ℕ → ℕ) (P R : ℕ → ℤ) where
       early : (i : ℕ) → monoTo n c (lowered n e) (member n i P R) ≡ termNum n c e P
       early i =
           let ne : (k : ℕ) → k < n → k ≡ n → ⊥ = λ k l q. omega arith in
-          mono-term n c e (lowered n e) (member n i P R) P (λ k h. lowered-other n e k (ne k h)) (λ k h l. member-before n i P R k l h)
+          mono-term n c e (lowered n e) (member n i P R) P (λ k h. lowered-other n e k (ne k h))
+          (λ k h l. member-before n i P R k l h)
 
       last : (i : ℕ) → i < e n → prodTo (lowered n e n) (member n i P R n) ≡ mixed i
       last i l =
@@ -137,10 +143,12 @@ module _ (c : ℤ) (e : ℕ → ℕ) (P R : ℕ → ℤ) where
       ∙ ap (λ (z : ℤ). sumTo n (λ j. (P j -ℤ R j) *ℤ part n j) *ℤ power (R n) (e n) +ℤ z) last
       ∙ ap (λ (z : ℤ). z +ℤ (P n -ℤ R n) *ℤ part (suc n) n) (sym early)
     where
-      early : sumTo n (λ j. (P j -ℤ R j) *ℤ part (suc n) j) ≡ sumTo n (λ j. (P j -ℤ R j) *ℤ part n j) *ℤ power (R n) (e n)
+      early : sumTo n (λ j. (P j -ℤ R j) *ℤ part (suc n) j)
+          ≡ sumTo n (λ j. (P j -ℤ R j) *ℤ part n j) *ℤ power (R n) (e n)
       early =
           sum-cong n (λ j. (P j -ℤ R j) *ℤ part (suc n) j) (λ j. ((P j -ℤ R j) *ℤ part n j) *ℤ power (R n) (e n))
-          (λ j l. ap (λ (z : ℤ). (P j -ℤ R j) *ℤ z) (part-more n j l) ∙ sym (*ℤ-assoc (P j -ℤ R j) (part n j) (power (R n) (e n))))
+          (λ j l. ap (λ (z : ℤ). (P j -ℤ R j) *ℤ z) (part-more n j l)
+          ∙ sym (*ℤ-assoc (P j -ℤ R j) (part n j) (power (R n) (e n))))
           ∙ sum-mul-r n (power (R n) (e n)) (λ j. (P j -ℤ R j) *ℤ part n j)
 
       last : termNum n c e P *ℤ (power (P n) (e n) -ℤ power (R n) (e n)) ≡ (P n -ℤ R n) *ℤ part (suc n) n

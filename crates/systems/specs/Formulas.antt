@@ -1,5 +1,6 @@
--- Document 01, "The three kinds": the formulas that the built equations must equal, at the fraction point P over d. Unknown j is P j over
--- 65,536 d, and matrix entries, right sides and values are in marks. As in `equationNum`, each value is multiplied by (65,536 d) to the power of 3.
+-- Document 01, "The three kinds": the formulas that the built equations must equal, at the fraction point P over d.
+-- Unknown j is P j over 65,536 d, and matrix entries, right sides and values are in marks. As in `equationNum`, each
+-- value is multiplied by (65,536 d) to the power of 3.
 use mathlib.Core.Bool.{cond}
 use Prim.Native.Nat.{ℕ, _-_}
 use lib.Dec.{eqb}
@@ -21,11 +22,12 @@ linearNum n a b P d = (sumTo n (λ j. a j *ℤ P j) -ℤ b *ℤ unitsOf d) *ℤ 
 unfoldable pub coordinate : ℕ → (ℕ → ℤ) → ℤ → ℕ → ℤ
 coordinate p P d j = cond (eqb j p) (unitsOf d) (P j)
 
--- "the sum of a(i,j) x(j) over j < n, plus a(i,n), minus L x(i), where x(n) is 1": over 65,536 d twice, then raised. L is unknown p, and L x(i) in
--- marks is 65,536 times what it is in units.
+-- "the sum of a(i,j) x(j) over j < n, plus a(i,n), minus L x(i), where x(n) is 1": over 65,536 d twice, then raised. L
+-- is unknown p, and L x(i) in marks is 65,536 times what it is in units.
 unfoldable pub eigenNum : ℕ → ℕ → (ℕ → ℤ) → ℕ → (ℕ → ℤ) → ℤ → ℤ
 eigenNum n p a i P d =
-    (sumTo n (λ j. a j *ℤ coordinate p P d j) *ℤ unitsOf d -ℤ pos mark *ℤ (P p *ℤ coordinate p P d i)) *ℤ power (unitsOf d) (degreeMax - 2)
+    (sumTo n (λ j. a j *ℤ coordinate p P d j) *ℤ unitsOf d -ℤ pos mark *ℤ (P p *ℤ coordinate p P d i))
+    *ℤ power (unitsOf d) (degreeMax - 2)
 
 -- "Polynomial: as given."
 abbrev pub formulaBy : Kind → Job → ℕ → (ℕ → ℤ) → ℤ → ℤ

@@ -1,5 +1,6 @@
--- Fraction points and exact values, with every denominator multiplied out. "A fraction point is a whole number for each unknown over one whole
--- denominator of at least 1, counted in marks": here the numbers P over the denominator d. Its value for unknown k is P k over d 65,536.
+-- Fraction points and exact values, with every denominator multiplied out. "A fraction point is a whole number for each
+-- unknown over one whole denominator of at least 1, counted in marks": here the numbers P over the denominator d. Its
+-- value for unknown k is P k over d 65,536.
 use Prim.Native.Nat.{ℕ, zero, suc, _-_, _≤_, _<_}
 use lib.IntN.{ℤ, pos, _*ℤ_}
 use lib.Signed.{_<ℤ_}
@@ -34,6 +35,8 @@ termNum (suc n) c e P = termNum n c e P *ℤ power (P n) (e n)
 pub record DegreesIn (n : ℕ) (q : Equation) : Type 0 where
   pub each : (t : ℕ) → t < q .count → degree n (expsOf q t) ≤ degreeMax
 
--- the exact value of an equation at the point, in marks, times (65,536 d) to the power of 3: each term is raised to degree 3
+-- the exact value of an equation at the point, in marks, times (65,536 d) to the power of 3: each term is raised to
+-- degree 3
 unfoldable pub equationNum : ℕ → Equation → (ℕ → ℤ) → ℤ → ℤ
-equationNum n q P d = sumTo (q .count) (λ t. termNum n (coefOf q t) (expsOf q t) P *ℤ power (unitsOf d) (degreeMax - degree n (expsOf q t)))
+equationNum n q P d = sumTo (q .count)
+    (λ t. termNum n (coefOf q t) (expsOf q t) P *ℤ power (unitsOf d) (degreeMax - degree n (expsOf q t)))

@@ -39,8 +39,8 @@ rowCoef n a b t = cond (ltb t n) (a t) (negℤ b)
 unfoldable pub linearEquation : ℕ → (ℕ → ℤ) → ℤ → Equation
 linearEquation n a b = build n (rowCoef n a b) unitE
 
--- "Equation i is the sum of a(i,j) x(j) over j < n, plus a(i,n), minus L x(i), where x(n) is 1", each its own term. Here coordinate p is 1, and
--- unknown p is L.
+-- "Equation i is the sum of a(i,j) x(j) over j < n, plus a(i,n), minus L x(i), where x(n) is 1", each its own term.
+-- Here coordinate p is 1, and unknown p is L.
 abbrev pub eigenE : ℕ → ℕ → ℕ → ℕ → ℕ → ℕ
 eigenE n p i t k = cond (ltb t n) (vectorE p t k) (unitE p k + vectorE p i k)
 

@@ -1,5 +1,5 @@
--- What the functions over a system ask of it, the sizes of document 01, which the check of a job's values establishes; and how large the
--- results can be: "With these sizes every sum of products below fits a signed 64-bit number."
+-- What the functions over a system ask of it, the sizes of document 01, which the check of a job's values establishes;
+-- and how large the results can be: "With these sizes every sum of products below fits a signed 64-bit number."
 use Prim.Native.Nat.{ℕ, zero, suc, _*_, _≤_, _<_}
 use lib.IntN.{ℤ}
 use Rattle.sizes.specs.Sizes.{nMax, termsMax, endMax, entryMax, degreeMax}
@@ -43,7 +43,8 @@ pub record EntriesIn (n : ℕ) (a : ℕ → ℤ) : Type 0 where
 -- the part of a job that its kind's equations are made of
 abbrev pub PartsIn : Kind → Job → Type 0
 PartsIn Kind.Poly j = SystemIn (j .head .n) (equationAt (j .system .eqs))
-PartsIn Kind.Linear j = ((i : ℕ) → i < j .head .n → EntriesIn (j .head .n) (rowOf j i)) × EntriesIn (j .head .n) (numberAt (j .system .right))
+PartsIn Kind.Linear j = ((i : ℕ) → i < j .head .n → EntriesIn (j .head .n) (rowOf j i))
+    × EntriesIn (j .head .n) (numberAt (j .system .right))
 PartsIn Kind.Eigen j = (i : ℕ) → i < j .head .n → EntriesIn (j .head .n) (rowOf j i)
 
 -- what an accepted job has of it

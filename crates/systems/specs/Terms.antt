@@ -1,5 +1,6 @@
--- Document 01, "The arithmetic": terms, equations and slopes over a box of n unknowns. A box is read by its places: X k is the interval of
--- unknown k. So are a term's exponents: e k is the exponent of unknown k. Unknown 1 of document 01 stands at place 0.
+-- Document 01, "The arithmetic": terms, equations and slopes over a box of n unknowns. A box is read by its places: X k
+-- is the interval of unknown k. So are a term's exponents: e k is the exponent of unknown k. Unknown 1 of document 01
+-- stands at place 0.
 use mathlib.Core.Bool.{cond}
 use mathlib.Core.List.{List}
 use Prim.Native.Nat.{ℕ, _-_}
@@ -21,7 +22,8 @@ coefOf q t = termAt q t .coef
 abbrev pub expsOf : Equation → ℕ → ℕ → ℕ
 expsOf q t = expOf (termAt q t)
 
--- "multiply by unknown 1 as often as its exponent says", "rounding after each product"; "A square is a plain product here."
+-- "multiply by unknown 1 as often as its exponent says", "rounding after each product"; "A square is a plain product
+-- here."
 unfoldable pub factorI : ℕ → Interval → Interval → Interval
 factorI e a x = carry e a (λ i p. mulI p x)
 

@@ -16,7 +16,8 @@ ghost use Rattle.intervals.specs.Interval.{pointI};
 ghost use Rattle.intervals.specs.Places.{sideAt, numberAt};
 ghost use Rattle.jobs.specs.Places.{equationAt};
 ghost use Rattle.systems.specs.Terms.{factorI, equationOver, lowered, valuesOver, slopeRow, slopesOver};
-ghost use Rattle.systems.specs.Kinds.{unitE, vectorE, eigenE, rowCoef, linearEquation, eigenEquation, equationOf, equationsOf};
+ghost use Rattle.systems.specs.Kinds.{unitE, vectorE, eigenE, rowCoef, linearEquation};
+ghost use Rattle.systems.specs.Kinds.{eigenEquation, equationOf, equationsOf};
 ghost use Rattle.systems.specs.Ranges.{FactorIn, BoxIn, TermIn, EquationIn, SystemIn, JobIn};
 
 // a multiplied by x as often as e says, rounding after each product.
@@ -138,7 +139,8 @@ pub fn coordinate(p: usize, t: usize, k: usize) -> u8
     unit(t, k)
 }
 
-// The exponent of unknown k in term t of row i of an eigenpair: its coordinate, or L times coordinate i in the term after the row.
+// The exponent of unknown k in term t of row i of an eigenpair: its coordinate, or L times coordinate i in the term
+// after the row.
 pub fn eigen_exponent(t: usize, i: usize, p: usize, k: usize, n: usize) -> u8
     ensures { λ r. ⌜ r ≡ eigenE n p i t k ⌝ }
 {

@@ -1,29 +1,21 @@
 -- A line of a key and a count, written and read.
-use Prim.Native.Nat.{ℕ, _≤_, _<_, _^_}
+use Prim.Native.Nat.{ℕ, _≤_}
 use native.Mathlib.Omega.{arith}
 use mathlib.Core.Path.{_≡_, ap, _∙_}
 use mathlib.Core.List.{List, [], _++_}
 use mathlib.Core.Bool.{Bool, true, false, cond}
 use lib.Dec.{ltb}
 use lib.IntN.{ℤ, pos, negsuc}
-use borrow.Author.Tests.{lt-ltb, le-ltb}
+use borrow.Author.Tests.{lt-ltb}
 use Rattle.digits.proofs.Cases.{either}
 use Rattle.digits.specs.Number.{digitsMax, readNumber}
 use Rattle.digits.specs.Show.{showMagnitude, showNumber}
-use Rattle.digits.proofs.ReadBack.{number-back}
 use Rattle.digits.proofs.WriteBack.{number-was}
 use Rattle.digits.specs.declared.Number.{Number}
 use Rattle.text.specs.declared.Count.{Count}
 use Rattle.text.specs.Counts.{inCount, countOf}
 use Rattle.text.specs.Keys.{bodyOf}
-use Rattle.text.proofs.Keys.{body-own, body-was}
-
-pub count-back : (most : ℕ) (key : List ℕ) (m : ℕ) → m ≤ most → most < 10 ^ digitsMax
-    → countOf most (readNumber (bodyOf key (key ++ showMagnitude digitsMax m))) ≡ Count.Is m
-unfolding countOf inCount showNumber
-count-back most key m h k =
-    let e : readNumber (showMagnitude digitsMax m) ≡ Number.Is (pos m) = number-back (pos m) (omega arith) in
-    rw (body-own key (showMagnitude digitsMax m), e, le-ltb most m h)
+use Rattle.text.proofs.Keys.{body-was}
 
 cond-was : (t : Bool) (a m : ℕ) → cond t Count.Out (Count.Is a) ≡ Count.Is m → a ≡ m
 cond-was true a m e = absurd (let z : _≡_ {A = ℕ} 0 1 = cc in omega arith)
@@ -57,4 +49,5 @@ pub count-was : (most : ℕ) (key l : List ℕ) (m : ℕ) → countOf most (read
 unfolding showNumber
 count-was most key l m e =
     let n = number-of most (readNumber (bodyOf key l)) m e in
-    ap (λ (x : List ℕ). key ++ x) (number-was (bodyOf key l) (pos m) n) ∙ body-was key l (no-number (bodyOf key l) (pos m) n)
+    ap (λ (x : List ℕ). key ++ x) (number-was (bodyOf key l) (pos m) n)
+    ∙ body-was key l (no-number (bodyOf key l) (pos m) n)

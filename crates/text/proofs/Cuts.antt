@@ -1,4 +1,5 @@
--- A loop that goes through a slice byte by byte and hands on each piece between separators: what one turn does to the fold that it computes.
+-- A loop that goes through a slice byte by byte and hands on each piece between separators: what one turn does to the
+-- fold that it computes.
 use Prim.Native.Nat.{ℕ, zero, suc, _+_, _-_, _≤_, _<_}
 use native.Mathlib.Omega.{arith}
 use native.Mathlib.Numerals.{add-one}
@@ -10,7 +11,8 @@ use borrow.Author.Tests.{eq-eqb, ne-eqb}
 use Rattle.text.specs.Cut.{Cut, PieceEnd, fresh, feed, feeds}
 
 -- the part from a to i, and one byte more of it
-part-more : (s : List ℕ) (a i : ℕ) → a ≤ i → i < length s → take (i + 1 - a) (drop a s) ≡ take (i - a) (drop a s) ++ (getD s i 0 ∷ [])
+part-more : (s : List ℕ) (a i : ℕ)
+    → a ≤ i → i < length s → take (i + 1 - a) (drop a s) ≡ take (i - a) (drop a s) ++ (getD s i 0 ∷ [])
 part-more s a i p q =
     let e : i + 1 - a ≡ suc (i - a) = omega arith in
     let f : a + (i - a) ≡ i = omega arith in
@@ -25,7 +27,8 @@ module _ {S : Type 0} (step : S → List ℕ → S) (sep : ℕ) where
   unfolding feed
   feed-sep k b e = rw (eq-eqb b sep e)
 
-  pub feed-held : (k : Cut S) (b : ℕ) → (b ≡ sep → ⊥) → feed step sep k b ≡ record { st = k .st; held = k .held ++ (b ∷ []) }
+  pub feed-held : (k : Cut S) (b : ℕ) → (b ≡ sep → ⊥)
+      → feed step sep k b ≡ record { st = k .st; held = k .held ++ (b ∷ []) }
   unfolding feed
   feed-held k b n = rw (ne-eqb b sep n)
 
@@ -52,7 +55,8 @@ module _ {S : Type 0} (step : S → List ℕ → S) (sep : ℕ) where
 
     pub kept : (getD s i 0 ≡ sep → ⊥)
         → feeds step sep (at-part st s a i) (drop i s) ≡ feeds step sep (at-part st s a (i + 1)) (drop (i + 1) s)
-    kept n = rw (part-more s a i p q, drop-cons s i 0 q, add-one i, feeds-cons, feed-held (at-part st s a i) (getD s i 0) n)
+    kept n =
+        rw (part-more s a i p q, drop-cons s i 0 q, add-one i, feeds-cons, feed-held (at-part st s a i) (getD s i 0) n)
 
   -- up to its end a piece is held
   held-from : (s : List ℕ) (st : S) (a : ℕ) (d i : ℕ) → a ≤ i → i + d ≤ length s
@@ -70,11 +74,13 @@ module _ {S : Type 0} (step : S → List ℕ → S) (sep : ℕ) where
   held s st a e p =
       let z : a - a ≡ 0 = omega arith in
       let f : a + (e - a) ≡ e = omega (arith, p .after) in
-      rw f at (rw z at (held-from s st a (e - a) a (omega arith) (omega (arith, p .inside, p .after)) (λ k x y. p .none k x (omega (arith, p .after)))))
+      rw f at (rw z at (held-from s st a (e - a) a (omega arith) (omega (arith, p .inside, p .after))
+      (λ k x y. p .none k x (omega (arith, p .after)))))
 
   -- a piece that a separator ends
   pub piece : (s : List ℕ) (st : S) (a e : ℕ) → PieceEnd s sep a e → e < length s
-      → feeds step sep (fresh st) (drop a s) ≡ feeds step sep (fresh (step st (take (e - a) (drop a s)))) (drop (e + 1) s)
+      → feeds step sep (fresh st) (drop a s)
+      ≡ feeds step sep (fresh (step st (take (e - a) (drop a s)))) (drop (e + 1) s)
   piece s st a e p h =
       let z : e + 1 - (e + 1) ≡ 0 = omega arith in
       held s st a e p ∙ rw z at (ended s st a e (p .after) h (p .ends h))
@@ -83,7 +89,8 @@ module _ {S : Type 0} (step : S → List ℕ → S) (sep : ℕ) where
 abbrev pub closed : {S : Type 0} → (S → List ℕ → S) → Cut S → S
 closed step k = step (k .st) (k .held)
 
--- what a loop over pieces leaves to do: the pieces from a on take acc to the whole, and past the end of the text there are none
+-- what a loop over pieces leaves to do: the pieces from a on take acc to the whole, and past the end of the text there
+-- are none
 pub record Left {S : Type 0} (step : S → List ℕ → S) (sep : ℕ) (s : List ℕ) (a : ℕ) (acc whole : S) : Type 0 where
   pub more : a ≤ length s → closed step (feeds step sep (fresh acc) (drop a s)) ≡ whole
   pub none : length s < a → acc ≡ whole
@@ -95,5 +102,6 @@ module _ {S : Type 0} (step : S → List ℕ → S) (sep : ℕ) (s : List ℕ) (
       let fed = ap (closed step) (held step sep s acc a e p) in
       record {
         more = λ k. sym (ap (closed step) (piece step sep s acc a e p (omega arith))) ∙ l .more h;
-        none = λ k. sym (ap (closed step) (all-fed step sep s (at-part acc s a e) e (omega arith))) ∙ sym fed ∙ l .more h;
+        none =
+            λ k. sym (ap (closed step) (all-fed step sep s (at-part acc s a e) e (omega arith))) ∙ sym fed ∙ l .more h;
       }

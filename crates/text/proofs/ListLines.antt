@@ -14,4 +14,5 @@ unfolding readList lastField feeds addField addRead readNumber noNumbers
 no-list = refl
 
 pub list-line : (key l : List ℕ) → readList (bodyOf key l) .ok ≡ true → key ++ bodyOf key l ≡ l
-list-line key l e = body-was key l (λ n. absurd (false≢true (sym no-list ∙ ap (λ (b : List ℕ). readList b .ok) (sym n) ∙ e)))
+list-line key l e =
+    body-was key l (λ n. absurd (false≢true (sym no-list ∙ ap (λ (b : List ℕ). readList b .ok) (sym n) ∙ e)))

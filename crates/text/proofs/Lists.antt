@@ -5,10 +5,9 @@ use native.Mathlib.Nat.{add-zero}
 use mathlib.Core.Path.{_≡_, refl, sym, ap, ap₂, _∙_}
 use mathlib.Core.List.{List, [], _∷_, _++_, map, append-assoc, foldl}
 use mathlib.Core.Bool.{true, false, false≢true}
-use lib.ListN.{length, drop, take, replicate, length-append, getD, List·getD-append}
-use lib.Seq.{set-append-seam, take-append-add, take-append-seam}
+use lib.ListN.{length, drop, take, replicate, length-append}
+use lib.Seq.{set-append-seam}
 use lib.IntN.{ℤ, pos}
-use Rattle.sizes.specs.Sizes.{nMax}
 use Rattle.digits.specs.Bytes.{comma, minusSign}
 use Rattle.digits.specs.Number.{readNumber}
 use Rattle.digits.specs.Show.{showNumber}
@@ -16,8 +15,10 @@ use Rattle.digits.proofs.ReadBack.{number-back}
 use Rattle.digits.proofs.WriteBack.{number-was}
 use Rattle.digits.specs.declared.Number.{Number}
 use Rattle.text.specs.declared.Numbers.{Numbers}
-use Rattle.text.specs.Lists.{placesMax, noNumbers, putNumber, addRead, addField, lastField, readList, joined, showList, Small}
-use Rattle.text.proofs.Pieces.{Above, AllAbove, above-append, commas-above, number-above, fed-joined, fields, fields-joined, fields-fold}
+use Rattle.text.specs.Lists.{placesMax, noNumbers, putNumber, addRead, addField}
+use Rattle.text.specs.Lists.{lastField, readList, joined, showList, Small}
+use Rattle.text.proofs.Pieces.{Above, AllAbove, above-append, commas-above, number-above}
+use Rattle.text.proofs.Pieces.{fed-joined, fields, fields-joined, fields-fold}
 
 -- ---- numbers at their places
 
@@ -30,20 +31,24 @@ zeros = replicate placesMax (pos 0)
 put-one : (ps zs : List ℤ) (z v : ℤ)
     → putNumber (listed (length ps) (ps ++ (z ∷ zs))) v ≡ listed (length (ps ++ (v ∷ []))) ((ps ++ (v ∷ [])) ++ zs)
 unfolding putNumber
-put-one ps zs z v = ap₂ listed (sym (length-append ps (v ∷ []))) (set-append-seam ps z zs v ∙ sym (append-assoc ps (v ∷ []) zs))
+put-one ps zs z v =
+    ap₂ listed (sym (length-append ps (v ∷ []))) (set-append-seam ps z zs v ∙ sym (append-assoc ps (v ∷ []) zs))
 
 put-all : (ps vs zs : List ℤ) → length vs ≤ length zs
-    → foldl putNumber (listed (length ps) (ps ++ zs)) vs ≡ listed (length ps + length vs) (ps ++ (vs ++ drop (length vs) zs))
+    → foldl putNumber (listed (length ps) (ps ++ zs)) vs
+    ≡ listed (length ps + length vs) (ps ++ (vs ++ drop (length vs) zs))
 put-all ps [] zs h = ap₂ listed (sym (add-zero (length ps))) refl
 put-all ps (v ∷ vs) [] h = absurd (omega arith)
 put-all ps (v ∷ vs) (z ∷ zs) h =
-    let e : length (ps ++ (v ∷ [])) + length vs ≡ length ps + suc (length vs) = rw (length-append ps (v ∷ [])) (omega arith) in
+    let e : length (ps ++ (v ∷ [])) + length vs ≡ length ps + suc (length vs) =
+    rw (length-append ps (v ∷ [])) (omega arith) in
     ap (λ (t : Numbers). foldl putNumber t vs) (put-one ps zs z v)
     ∙ put-all (ps ++ (v ∷ [])) vs zs (omega arith)
     ∙ ap₂ listed e (append-assoc ps (v ∷ []) (vs ++ drop (length vs) zs))
 
 -- the numbers, and zeros after them
-put-list : (vs : List ℤ) → length vs ≤ placesMax → foldl putNumber noNumbers vs ≡ listed (length vs) (vs ++ drop (length vs) zeros)
+put-list : (vs : List ℤ)
+    → length vs ≤ placesMax → foldl putNumber noNumbers vs ≡ listed (length vs) (vs ++ drop (length vs) zeros)
 unfolding noNumbers
 put-list vs h = put-all [] vs zeros h ∙ ap₂ listed {x = 0 + length vs} (omega arith) refl
 
@@ -124,7 +129,8 @@ unfolding addField addRead
 shown [] a e = record { vs = []; spelled = refl; read = refl }
 shown (f ∷ fs) a e = go (readNumber f) refl (λ x q. shown fs x q)
   where
-    go : (n : Number) → readNumber f ≡ n → ((x : Numbers) → foldl addField x fs .ok ≡ true → Shown x fs) → Shown a (f ∷ fs)
+    go : (n : Number)
+        → readNumber f ≡ n → ((x : Numbers) → foldl addField x fs .ok ≡ true → Shown x fs) → Shown a (f ∷ fs)
     go Number.Bad q ih = absurd (false≢true (sym (not-ok fs _ (ap (λ (x : Number). addRead a x .ok) q)) ∙ e))
     go (Number.Is v) q ih =
         let step : addField a f ≡ putNumber a v = ap (addRead a) q in
@@ -155,11 +161,6 @@ list-was f e =
     }
 
 -- ---- a row of N places
-
-drop-zeros : (k m : ℕ) → drop k (replicate m (pos 0)) ≡ replicate (m - k) (pos 0)
-drop-zeros zero m = let e : m - 0 ≡ m = omega arith in rw e
-drop-zeros (suc k) zero = let e : 0 - suc k ≡ 0 = omega arith in rw e
-drop-zeros (suc k) (suc m) = let e : suc m - suc k ≡ m - k = omega arith in rw e (drop-zeros k m)
 
 pub take-zeros : (k m : ℕ) → k ≤ m → take k (replicate m (pos 0)) ≡ replicate k (pos 0)
 take-zeros zero m h = refl

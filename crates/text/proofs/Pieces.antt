@@ -1,4 +1,5 @@
--- Pieces that are written with separators are cut again where they were joined, and every text is its pieces with the separators between them.
+-- Pieces that are written with separators are cut again where they were joined, and every text is its pieces with the
+-- separators between them.
 use Prim.Native.Nat.{ℕ, zero, suc, _+_, _/_, _%_, _<_}
 use native.Mathlib.Omega.{arith}
 use mathlib.Core.Path.{_≡_, refl, sym, ap, _∙_}
@@ -38,8 +39,10 @@ module _ (sep : ℕ) (h : sep < minusSign) where
   unfolding showMagnitude Above
   magnitude-above zero m = tt
   magnitude-above (suc k) m =
-      above-cond sep (ltb m 10) ((digit0 + m) ∷ []) (showMagnitude k (m / 10) ++ ((digit0 + m % 10) ∷ [])) (omega arith, tt)
-      (above-append sep (showMagnitude k (m / 10)) ((digit0 + m % 10) ∷ []) (magnitude-above k (m / 10)) (omega arith, tt))
+      above-cond sep (ltb m 10) ((digit0 + m) ∷ [])
+      (showMagnitude k (m / 10) ++ ((digit0 + m % 10) ∷ [])) (omega arith, tt)
+      (above-append sep (showMagnitude k (m / 10)) ((digit0 + m % 10) ∷ [])
+      (magnitude-above k (m / 10)) (omega arith, tt))
 
   pub number-above : (v : ℤ) → Above sep (showNumber v)
   unfolding showNumber Above
@@ -64,7 +67,8 @@ module _ {S : Type 0} (step : S → List ℕ → S) (sep : ℕ) where
   feeds-held st h [] q = ap (λ (l : List ℕ). record { st = st; held = l }) (sym (append-nil h))
   feeds-held st h (b ∷ xs) q =
       feeds-cons step sep (record { st = st; held = h }) b xs
-      ∙ ap (λ (k : Cut S). feeds step sep k xs) (feed-held step sep (record { st = st; held = h }) b (λ e. omega (arith, q .0, e)))
+      ∙ ap (λ (k : Cut S). feeds step sep k xs)
+      (feed-held step sep (record { st = st; held = h }) b (λ e. omega (arith, q .0, e)))
       ∙ feeds-held st (h ++ (b ∷ [])) xs (q .1)
       ∙ ap (λ (l : List ℕ). record { st = st; held = l }) (append-assoc h (b ∷ []) xs)
 
@@ -77,7 +81,8 @@ module _ {S : Type 0} (step : S → List ℕ → S) (sep : ℕ) where
       ∙ feeds-cons step sep (record { st = st; held = xs }) sep rest
       ∙ ap (λ (k : Cut S). feeds step sep k rest) (feed-sep step sep (record { st = st; held = xs }) sep refl)
 
-  pub fed-each : (ls : List (List ℕ)) (st : S) → AllAbove sep ls → feeds step sep (fresh st) (endEach sep ls) ≡ fresh (foldl step st ls)
+  pub fed-each : (ls : List (List ℕ)) (st : S)
+      → AllAbove sep ls → feeds step sep (fresh st) (endEach sep ls) ≡ fresh (foldl step st ls)
   unfolding AllAbove endEach feeds
   fed-each [] st q = refl
   fed-each (l ∷ ls) st q = feeds-piece st l (endEach sep ls) (q .0) ∙ fed-each ls (step st l) (q .1)
@@ -124,7 +129,8 @@ module _ {S : Type 0} (step : S → List ℕ → S) (sep : ℕ) (st : S) where
       rw (feeds-cons step sep now b t, feeds-cons snoc sep k b t, feed-held step sep now b n, feed-held snoc sep k b n)
       (cut-from t (record { st = k .st; held = k .held ++ (b ∷ []) })))
 
-  pub cut-fold : (t : List ℕ) → feeds step sep (fresh st) t ≡ record { st = foldl step st (pieces sep t); held = rest sep t }
+  pub cut-fold : (t : List ℕ)
+      → feeds step sep (fresh st) t ≡ record { st = foldl step st (pieces sep t); held = rest sep t }
   unfolding pieces rest
   cut-fold t = cut-from t (fresh [])
 

@@ -17,7 +17,8 @@ fresh s = record { st = s; held = [] }
 
 -- one byte more: a separator ends the piece, and any other byte is held
 unfoldable pub feed : {S : Type 0} → (S → List ℕ → S) → ℕ → Cut S → ℕ → Cut S
-feed step sep k b = cond (eqb b sep) (fresh (step (k .st) (k .held))) (record { st = k .st; held = k .held ++ (b ∷ []) })
+feed step sep k b =
+    cond (eqb b sep) (fresh (step (k .st) (k .held))) (record { st = k .st; held = k .held ++ (b ∷ []) })
 
 -- all of a text
 unfoldable pub feeds : {S : Type 0} → (S → List ℕ → S) → ℕ → Cut S → List ℕ → Cut S

@@ -2,7 +2,7 @@
 ghost use mathlib.Core.Path.{_≡_};
 ghost use Prim.Native.Nat.{_≤_};
 ghost use lib.ListN.{length};
-ghost use Rattle.text.specs.Keys.{startsWith, sameBytes, bodyOf};
+ghost use Rattle.text.specs.Keys.{startsWith, sameBytes};
 ghost use Rattle.text.specs.Counts.{inCount};
 ghost use Rattle.text.specs.Cut.{PieceEnd};
 use sizes::N;
@@ -48,17 +48,6 @@ pub fn same_bytes(l: &[u8], word: &[u8]) -> bool
         return starts(l, word);
     }
     false
-}
-
-// What stands after the key; nothing where the line has another key.
-pub fn body<'a, 'b>(l: &'a [u8], key: &'b [u8]) -> &'a [u8]
-    ensures { λ r. ⌜ now r ≡ bodyOf (now (key .entry)) (now (l .entry)) ⌝ }
-{
-    if starts(l, key) {
-        let k = key.len();
-        return &l[k..];
-    }
-    &l[..0]
 }
 
 pub fn in_count(v: i64, most: u64) -> Count

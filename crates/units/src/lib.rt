@@ -82,7 +82,8 @@ fn write_run(j: Job, out: &mut [u8]) -> Written
 
 // A job text, answered by the text of its result and a line for each unknown.
 pub fn show(text: &[u8], out: &mut [u8]) -> Written
-    ensures { λ a. ⌜ Leaves (solveStatus (now (text .entry))) (unitsText (now (text .entry))) (now (out .entry)) (now (out .exit)) a ⌝ }
+    ensures { λ a. ⌜ Leaves (solveStatus (now (text .entry))) (unitsText (now (text .entry))) (now (out .entry))
+        (now (out .exit)) a ⌝ }
 {
     let read = job_read::read_job(text);
     let status = read.status;

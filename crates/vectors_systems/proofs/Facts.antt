@@ -43,8 +43,10 @@ below-two P a b m (suc (suc i)) l = absurd (no m l)
     no : {n : ℕ} → n ≤ 2 → suc (suc i) < n → ⊥
     no m l = omega arith
 
-pub written : (a : Interval) → leZ (a .lo) (a .hi) ≡ true → T (leb (natAbs (a .lo)) endMax) → T (leb (natAbs (a .hi)) endMax) → InI endMax a
-written a o l h = record { order = leZ-true (a .lo) (a .hi) o; low = within-lit (a .lo) endMax l; high = within-lit (a .hi) endMax h }
+pub written : (a : Interval) → leZ (a .lo) (a .hi) ≡ true → T (leb (natAbs (a .lo)) endMax)
+    → T (leb (natAbs (a .hi)) endMax) → InI endMax a
+written a o l h =
+    record { order = leZ-true (a .lo) (a .hi) o; low = within-lit (a .lo) endMax l; high = within-lit (a .hi) endMax h }
 
 module _ {n : ℕ} (l : n ≤ 2) where
   pub box-of : {X : ℕ → Interval} → BoxIn 2 X → BoxIn n X
@@ -53,19 +55,26 @@ module _ {n : ℕ} (l : n ≤ 2) where
   pub equation-of : {q : Equation} → EquationIn 2 q → EquationIn n q
   equation-of {q} h = record {
     count = h .count;
-    each = λ t m. record { coef = h .each t m .coef; deg = le-trans (degree-mono (expsOf q t) n 2 l) (h .each t m .deg) };
+    each =
+        λ t m. record { coef = h .each t m .coef; deg = le-trans (degree-mono (expsOf q t) n 2 l) (h .each t m .deg) };
   }
 
 -- what F and S of a job ask, and that they are in the bound
-module _ {j : Job} {X : ℕ → Interval} {eqs : List Equation} (h : Small j) (box : BoxIn 2 X) (e : eqs ≡ equationsOf j) where
+module _ {j : Job} {X : ℕ → Interval} {eqs : List Equation} (h : Small j) (box : BoxIn 2 X)
+    (e : eqs ≡ equationsOf j) where
   pub asked : BoxIn (j .head .n) X × SystemIn (j .head .n) (equationAt eqs)
   asked = (box-of (h .few) box, rw e (equations-in (h .facts)))
 
-  pub values-shown : {f : List Interval} → f ≡ valuesOver (j .head .n) (equationAt eqs) X → RowIn (j .head .n) (sideAt f)
-  values-shown p = rw (p, e) (record { places = h .facts .places; each = λ k m. in-values (box-of (h .few) box) (equations-in (h .facts)) k m })
+  pub values-shown : {f : List Interval}
+      → f ≡ valuesOver (j .head .n) (equationAt eqs) X → RowIn (j .head .n) (sideAt f)
+  values-shown p = rw (p, e) (record
+      { places = h .facts .places; each = λ k m. in-values (box-of (h .few) box) (equations-in (h .facts)) k m })
 
   pub slopes-shown : {s : List (List Interval)} → s ≡ slopesOver (j .head .n) (equationAt eqs) X → RowsIn (j .head .n) s
   slopes-shown p = rw (p, e) (record {
     places = h .facts .places;
-    each = λ i m. record { places = h .facts .places; each = λ k o. in-more (lit≤ tt) (in-slopes (box-of (h .few) box) (equations-in (h .facts)) i m k o) };
+    each = λ i m. record {
+      places = h .facts .places;
+      each = λ k o. in-more (lit≤ tt) (in-slopes (box-of (h .few) box) (equations-in (h .facts)) i m k o);
+    };
   })

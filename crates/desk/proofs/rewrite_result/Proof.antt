@@ -6,15 +6,6 @@ use Rattle.desk.proofs.Taken.{result-taken}
 use Rattle.desk.proofs.rewrite_result.Statement.{statement}
 use Rattle.desk.proofs.rewrite_result.Tie as tie
 
-read-result-requires : tie.Need-read-result-requires
-read-result-requires c κs = search needs
-
-enum-known-status : tie.Need-enum-known-status
-enum-known-status c = search needs
-
-enum-told : tie.Need-enum-told
-enum-told c = search needs
-
 write-ready-requires : tie.Need-write-ready-requires
 write-ready-requires c κs =
     let read = c .before .before .before in
@@ -23,9 +14,6 @@ write-ready-requires c κs =
 returns : tie.Need-returns
 unfolding resultStatus resultText
 returns c = rw (← c .before .before .before .read-result .ensures) (read-bad _ (c .before .status .given .1))
-
-same-length : tie.Need-same-length
-same-length c = search needs
 
 returns-2 : tie.Need-returns-2
 unfolding resultStatus resultText
@@ -38,11 +26,5 @@ returns-2 c =
 pub rewrite-result-spec : {M : Type 1} → statement M
 rewrite-result-spec =
     tie.close
-    (tie.spec
-    read-result-requires
-    enum-known-status
-    enum-told
-    write-ready-requires
-    returns
-    same-length
-    returns-2)
+    (tie.spec (λ c κs. search needs) (λ c. search needs) (λ c. search needs) write-ready-requires returns
+    (λ c. search needs) returns-2)

@@ -6,15 +6,6 @@ use Rattle.desk.proofs.Taken.{job-taken}
 use Rattle.desk.proofs.solve.Statement.{statement}
 use Rattle.desk.proofs.solve.Tie as tie
 
-read-job-requires : tie.Need-read-job-requires
-read-job-requires c κs = search needs
-
-enum-known-status : tie.Need-enum-known-status
-enum-known-status c = search needs
-
-enum-told : tie.Need-enum-told
-enum-told c = search needs
-
 write-run-requires : tie.Need-write-run-requires
 write-run-requires c κs =
     let read = c .before .before .before in
@@ -23,9 +14,6 @@ write-run-requires c κs =
 returns : tie.Need-returns
 unfolding solveStatus solveText
 returns c = rw (← c .before .before .before .read-job .ensures) (read-bad _ (c .before .status .given .1))
-
-same-length : tie.Need-same-length
-same-length c = search needs
 
 returns-2 : tie.Need-returns-2
 unfolding solveStatus solveText
@@ -37,11 +25,5 @@ returns-2 c =
 pub solve-spec : {M : Type 1} → statement M
 solve-spec =
     tie.close
-    (tie.spec
-    read-job-requires
-    enum-known-status
-    enum-told
-    write-run-requires
-    returns
-    same-length
-    returns-2)
+    (tie.spec (λ c κs. search needs) (λ c. search needs) (λ c. search needs) write-run-requires returns
+    (λ c. search needs) returns-2)

@@ -10,24 +10,20 @@ use Rattle.desk.proofs.Answer.{read-good}
 use Rattle.desk.proofs.write_run.Statement.{statement}
 use Rattle.desk.proofs.write_run.Tie as tie
 
-accepted-requires : tie.Need-accepted-requires
-accepted-requires c κs = search needs
-
 write-ready-requires : tie.Need-write-ready-requires
 write-ready-requires c κs =
     let s = c .before .before .before in
     rw (c .before .accepted .ensures) (result-checked (s .args .j) (s .pre))
-
-same-length : tie.Need-same-length
-same-length c = search needs
 
 returns : tie.Need-returns
 unfolding runStatus runText
 returns c =
     let a = c .before .before .before .before in
     let s = a .before .before in
-    let checked : checkResult (a .accepted .result) ≡ Status.Done = rw (a .accepted .ensures) (result-checked (s .args .j) (s .pre)) in
-    rw (← answer-done (s .args .j) (s .pre) (a .accepted .ensures)) (read-good refl (rw checked (c .before .before .write-ready .ensures)))
+    let checked : checkResult (a .accepted .result) ≡ Status.Done =
+    rw (a .accepted .ensures) (result-checked (s .args .j) (s .pre)) in
+    rw (← answer-done (s .args .j) (s .pre) (a .accepted .ensures))
+    (read-good refl (rw checked (c .before .before .write-ready .ensures)))
 
 pub write-run-spec : {M : Type 1} → statement M
-write-run-spec = tie.close (tie.spec accepted-requires write-ready-requires same-length returns)
+write-run-spec = tie.close (tie.spec (λ c κs. search needs) write-ready-requires (λ c. search needs) returns)

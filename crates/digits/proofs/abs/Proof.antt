@@ -64,8 +64,5 @@ cast-result-2 c =
     let h = c .before .pre in
     rw (toZ-ofZ (wide v h)) (kept v h (above v h (c .if1 .left)))
 
-returns-2 : tie.Need-returns-2
-returns-2 c = search needs
-
 pub abs-spec : {M : Type 1} → statement M
-abs-spec = tie.close (tie.spec sub-result cast-result returns cast-result-2 returns-2)
+abs-spec = tie.close (tie.spec sub-result cast-result returns cast-result-2 (λ c. search needs))

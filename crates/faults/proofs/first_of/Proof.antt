@@ -4,12 +4,6 @@ use Rattle.faults.specs.Checks.{firstOf}
 use Rattle.faults.proofs.first_of.Statement.{statement}
 use Rattle.faults.proofs.first_of.Tie as tie
 
-enum-told : tie.Need-enum-told
-enum-told c = search needs
-
-enum-known-first : tie.Need-enum-known-first
-enum-known-first c = search needs
-
 returns : tie.Need-returns
 unfolding firstOf
 returns c = rw (c .enum-told .given .1)
@@ -19,4 +13,4 @@ unfolding firstOf
 returns-2 c = rw (c .before .first .given .1)
 
 pub first-of-spec : {M : Type 1} → statement M
-first-of-spec = tie.close (tie.spec enum-told enum-known-first returns returns-2)
+first-of-spec = tie.close (tie.spec (λ c. search needs) (λ c. search needs) returns returns-2)

@@ -4,12 +4,6 @@ use Rattle.faults.specs.Checks.{onLine}
 use Rattle.faults.proofs.on_line.Statement.{statement}
 use Rattle.faults.proofs.on_line.Tie as tie
 
-enum-told : tie.Need-enum-told
-enum-told c = search needs
-
-enum-known-f : tie.Need-enum-known-f
-enum-known-f c = search needs
-
 returns : tie.Need-returns
 unfolding onLine
 returns c = rw (c .enum-told .given .1)
@@ -19,4 +13,4 @@ unfolding onLine
 returns-2 c = rw (c .before .f .given .1)
 
 pub on-line-spec : {M : Type 1} → statement M
-on-line-spec = tie.close (tie.spec enum-told enum-known-f returns returns-2)
+on-line-spec = tie.close (tie.spec (λ c. search needs) (λ c. search needs) returns returns-2)

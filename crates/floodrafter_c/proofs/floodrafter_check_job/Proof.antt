@@ -3,14 +3,8 @@ use borrow.Author.Needs.{needs}
 use Rattle.floodrafter_c.proofs.floodrafter_check_job.Statement.{statement}
 use Rattle.floodrafter_c.proofs.floodrafter_check_job.Tie as tie
 
-read-job-requires : tie.Need-read-job-requires
-read-job-requires c κs = search needs
-
-numbers-requires : tie.Need-numbers-requires
-numbers-requires c κs = search needs
-
 returns : tie.Need-returns
-returns c = rw (← c .before .read-job .ensures) (c .numbers .ensures)
+returns c = rw (← c .before .read-status .ensures) (c .numbers .ensures)
 
 pub floodrafter-check-job-spec : {M : Type 1} → statement M
-floodrafter-check-job-spec = tie.close (tie.spec read-job-requires numbers-requires returns)
+floodrafter-check-job-spec = tie.close (tie.spec (λ c κs. search needs) (λ c κs. search needs) returns)

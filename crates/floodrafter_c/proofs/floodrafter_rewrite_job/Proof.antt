@@ -4,18 +4,10 @@ use Rattle.floodrafter_c.proofs.Gives.{gives}
 use Rattle.floodrafter_c.proofs.floodrafter_rewrite_job.Statement.{statement}
 use Rattle.floodrafter_c.proofs.floodrafter_rewrite_job.Tie as tie
 
-rewrite-job-requires : tie.Need-rewrite-job-requires
-rewrite-job-requires c κs = search needs
-
-numbers-requires : tie.Need-numbers-requires
-numbers-requires c κs = search needs
-
-same-length : tie.Need-same-length
-same-length c = search needs
-
 returns : tie.Need-returns
 returns c = gives (c .before .before .before .rewrite-job .ensures) (c .numbers .ensures)
 
 pub floodrafter-rewrite-job-spec : {M : Type 1} → statement M
 floodrafter-rewrite-job-spec =
-    tie.close (tie.spec rewrite-job-requires numbers-requires same-length returns)
+    tie.close
+    (tie.spec (λ c κs. search needs) (λ c κs. search needs) (λ c. search needs) returns)

@@ -4,15 +4,6 @@ use mathlib.Core.Path.{refl}
 use Rattle.floodrafter_c.proofs.numbers.Statement.{statement}
 use Rattle.floodrafter_c.proofs.numbers.Tie as tie
 
-enum-told : tie.Need-enum-told
-enum-told c = search needs
-
-enum-known-status : tie.Need-enum-known-status
-enum-known-status c = search needs
-
-fault-number-requires : tie.Need-fault-number-requires
-fault-number-requires c κs = search needs
-
 returns : tie.Need-returns
 returns c = rw (c .enum-told .given .1) refl
 
@@ -20,5 +11,4 @@ returns-2 : tie.Need-returns-2
 returns-2 c = rw (c .before .before .status .given .1) (rw (c .fault-number .ensures) refl)
 
 pub numbers-spec : {M : Type 1} → statement M
-numbers-spec =
-    tie.close (tie.spec enum-told enum-known-status fault-number-requires returns returns-2)
+numbers-spec = tie.close (tie.spec (λ c. search needs) (λ c. search needs) (λ c κs. search needs) returns returns-2)

@@ -12,9 +12,6 @@ use Rattle.intervals.proofs.ceil_div.Tie as tie
 add-floor-div : tie.Need-add-floor-div
 add-floor-div c = rw (back (c .fits .x)) (rest-fits (c .pre) _ tt)
 
-floor-div-requires : tie.Need-floor-div-requires
-floor-div-requires c κs = search needs
-
 returns : tie.Need-returns
 returns c =
     let s = c .before in
@@ -22,4 +19,4 @@ returns c =
     ∙ simp (toZ-ofZ, s .fits .x, rest-fits (s .pre) (mark - 1) tt) (floor-up (s .args .x))
 
 pub ceil-div-spec : {M : Type 1} → statement M
-ceil-div-spec = tie.close (tie.spec add-floor-div floor-div-requires returns)
+ceil-div-spec = tie.close (tie.spec add-floor-div (λ c κs. search needs) returns)

@@ -9,12 +9,6 @@ use Rattle.intervals.proofs.Ends.{ends}
 use Rattle.intervals.proofs.cut.Statement.{statement}
 use Rattle.intervals.proofs.cut.Tie as tie
 
-greatest-requires : tie.Need-greatest-requires
-greatest-requires c κs = search needs
-
-least-requires : tie.Need-least-requires
-least-requires c κs = search needs
-
 returns : tie.Need-returns
 unfolding cutI
 returns c =
@@ -28,4 +22,4 @@ returns c =
     (simp (got (c .least .ok) (c .least .ensures), toZ-ofZ, xh, kh))
 
 pub cut-spec : {M : Type 1} → statement M
-cut-spec = tie.close (tie.spec greatest-requires least-requires returns)
+cut-spec = tie.close (tie.spec (λ c κs. search needs) (λ c κs. search needs) returns)

@@ -27,7 +27,8 @@ returns c =
 returns-2 : tie.Need-returns-2
 returns-2 c =
     let f = c .before .fits .x in
-    simp (toZ-ofZ, f, quot-fits f) (rem-nonneg mark some (c .before .args .x) (simp (toZ-ofZ, f, rem-fits mark f) at (c .if1 .left)))
+    simp (toZ-ofZ, f, quot-fits f)
+    (rem-nonneg mark some (c .before .args .x) (simp (toZ-ofZ, f, rem-fits mark f) at (c .if1 .left)))
 
 pub floor-div-spec : {M : Type 1} → statement M
 floor-div-spec = tie.close (tie.spec div-q rem-r sub-result returns returns-2)

@@ -5,15 +5,6 @@ use Rattle.integers.proofs.Machine.{got}
 use Rattle.intervals.proofs.greatest_of_four.Statement.{statement}
 use Rattle.intervals.proofs.greatest_of_four.Tie as tie
 
-greatest-requires : tie.Need-greatest-requires
-greatest-requires c κs = search needs
-
-greatest-requires-2 : tie.Need-greatest-requires-2
-greatest-requires-2 c κs = search needs
-
-greatest-requires-3 : tie.Need-greatest-requires-3
-greatest-requires-3 c κs = search needs
-
 returns : tie.Need-returns
 returns c =
     let f = c .before .before .before .fits in
@@ -29,4 +20,6 @@ returns c =
     )
 
 pub greatest-of-four-spec : {M : Type 1} → statement M
-greatest-of-four-spec = tie.close (tie.spec greatest-requires greatest-requires-2 greatest-requires-3 returns)
+greatest-of-four-spec =
+    tie.close
+    (tie.spec (λ c κs. search needs) (λ c κs. search needs) (λ c κs. search needs) returns)

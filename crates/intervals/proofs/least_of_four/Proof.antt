@@ -5,15 +5,6 @@ use Rattle.integers.proofs.Machine.{got}
 use Rattle.intervals.proofs.least_of_four.Statement.{statement}
 use Rattle.intervals.proofs.least_of_four.Tie as tie
 
-least-requires : tie.Need-least-requires
-least-requires c κs = search needs
-
-least-requires-2 : tie.Need-least-requires-2
-least-requires-2 c κs = search needs
-
-least-requires-3 : tie.Need-least-requires-3
-least-requires-3 c κs = search needs
-
 returns : tie.Need-returns
 returns c =
     let f = c .before .before .before .fits in
@@ -29,4 +20,4 @@ returns c =
     )
 
 pub least-of-four-spec : {M : Type 1} → statement M
-least-of-four-spec = tie.close (tie.spec least-requires least-requires-2 least-requires-3 returns)
+least-of-four-spec = tie.close (tie.spec (λ c κs. search needs) (λ c κs. search needs) (λ c κs. search needs) returns)

@@ -8,9 +8,6 @@ use Rattle.intervals.specs.Interval.{midI}
 use Rattle.intervals.proofs.middle.Statement.{statement}
 use Rattle.intervals.proofs.middle.Tie as tie
 
-add-result : tie.Need-add-result
-add-result c = search needs
-
 returns : tie.Need-returns
 unfolding midI
 returns c =
@@ -20,4 +17,4 @@ returns c =
     simp (toZ-ofZ, l, h, s .pre .sum, shr-fits 2 (s .pre .sum)) (shr-floor 2 _)
 
 pub middle-spec : {M : Type 1} → statement M
-middle-spec = tie.close (tie.spec add-result returns)
+middle-spec = tie.close (tie.spec (λ c. search needs) returns)

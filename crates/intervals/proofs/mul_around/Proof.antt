@@ -10,24 +10,6 @@ use Rattle.intervals.proofs.Around.{around-low, around-high}
 use Rattle.intervals.proofs.mul_around.Statement.{statement}
 use Rattle.intervals.proofs.mul_around.Tie as tie
 
-mul-least : tie.Need-mul-least
-mul-least c = search needs
-
-mul-least-2 : tie.Need-mul-least-2
-mul-least-2 c = search needs
-
-least-requires : tie.Need-least-requires
-least-requires c κs = search needs
-
-mul-greatest : tie.Need-mul-greatest
-mul-greatest c = search needs
-
-mul-greatest-2 : tie.Need-mul-greatest-2
-mul-greatest-2 c = search needs
-
-greatest-requires : tie.Need-greatest-requires
-greatest-requires c κs = search needs
-
 returns : tie.Need-returns
 unfolding wideI
 returns c =
@@ -46,11 +28,5 @@ returns c =
 pub mul-around-spec : {M : Type 1} → statement M
 mul-around-spec =
     tie.close
-    (tie.spec
-    mul-least
-    mul-least-2
-    least-requires
-    mul-greatest
-    mul-greatest-2
-    greatest-requires
-    returns)
+    (tie.spec (λ c. search needs) (λ c. search needs) (λ c κs. search needs) (λ c. search needs) (λ c. search needs)
+    (λ c κs. search needs) returns)

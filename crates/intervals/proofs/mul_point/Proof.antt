@@ -13,18 +13,6 @@ use Rattle.intervals.proofs.Ends.{ends}
 use Rattle.intervals.proofs.mul_point.Statement.{statement}
 use Rattle.intervals.proofs.mul_point.Tie as tie
 
-mul-p : tie.Need-mul-p
-mul-p c = search needs
-
-mul-q : tie.Need-mul-q
-mul-q c = search needs
-
-least-requires : tie.Need-least-requires
-least-requires c κs = search needs
-
-greatest-requires : tie.Need-greatest-requires
-greatest-requires c κs = search needs
-
 returns : tie.Need-returns
 unfolding wideI
 returns c =
@@ -40,4 +28,6 @@ returns c =
     (simp (high, toZ-ofZ, s .fits .c, l, h, s .pre .ll, s .pre .lh) (max-both (λ z. g ≡ z) g g refl refl))
 
 pub mul-point-spec : {M : Type 1} → statement M
-mul-point-spec = tie.close (tie.spec mul-p mul-q least-requires greatest-requires returns)
+mul-point-spec =
+    tie.close
+    (tie.spec (λ c. search needs) (λ c. search needs) (λ c κs. search needs) (λ c κs. search needs) returns)

@@ -9,24 +9,6 @@ use Rattle.intervals.proofs.Ends.{ends}
 use Rattle.intervals.proofs.mul_wide.Statement.{statement}
 use Rattle.intervals.proofs.mul_wide.Tie as tie
 
-mul-p : tie.Need-mul-p
-mul-p c = search needs
-
-mul-q : tie.Need-mul-q
-mul-q c = search needs
-
-mul-r : tie.Need-mul-r
-mul-r c = search needs
-
-mul-s : tie.Need-mul-s
-mul-s c = search needs
-
-least-of-four-requires : tie.Need-least-of-four-requires
-least-of-four-requires c κs = search needs
-
-greatest-of-four-requires : tie.Need-greatest-of-four-requires
-greatest-of-four-requires c κs = search needs
-
 returns : tie.Need-returns
 unfolding wideI
 returns c =
@@ -44,4 +26,5 @@ returns c =
 pub mul-wide-spec : {M : Type 1} → statement M
 mul-wide-spec =
     tie.close
-    (tie.spec mul-p mul-q mul-r mul-s least-of-four-requires greatest-of-four-requires returns)
+    (tie.spec (λ c. search needs) (λ c. search needs) (λ c. search needs) (λ c. search needs) (λ c κs. search needs)
+    (λ c κs. search needs) returns)

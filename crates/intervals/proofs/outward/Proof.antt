@@ -9,12 +9,6 @@ use Rattle.intervals.proofs.Ends.{ends}
 use Rattle.intervals.proofs.outward.Statement.{statement}
 use Rattle.intervals.proofs.outward.Tie as tie
 
-floor-div-requires : tie.Need-floor-div-requires
-floor-div-requires c κs = search needs
-
-ceil-div-requires : tie.Need-ceil-div-requires
-ceil-div-requires c κs = search needs
-
 returns : tie.Need-returns
 unfolding outI
 returns c =
@@ -26,4 +20,4 @@ returns c =
     (simp (got (c .ceil-div .ok) (c .ceil-div .ensures), toZ-ofZ, h))
 
 pub outward-spec : {M : Type 1} → statement M
-outward-spec = tie.close (tie.spec floor-div-requires ceil-div-requires returns)
+outward-spec = tie.close (tie.spec (λ c κs. search needs) (λ c κs. search needs) returns)

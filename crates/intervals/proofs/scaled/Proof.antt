@@ -10,9 +10,6 @@ use Rattle.intervals.proofs.Ends.{ends}
 use Rattle.intervals.proofs.scaled.Statement.{statement}
 use Rattle.intervals.proofs.scaled.Tie as tie
 
-cast-k : tie.Need-cast-k
-cast-k c = search needs
-
 mul-t4 : tie.Need-mul-t4
 mul-t4 c =
     let s = c .before .before in
@@ -36,4 +33,4 @@ returns c =
     (simp (up (s .args .e) (omega (arith, s .fits .e)), toZ-ofZ, h, s .pre .high))
 
 pub scaled-spec : {M : Type 1} → statement M
-scaled-spec = tie.close (tie.spec cast-k mul-t4 mul-t5 returns)
+scaled-spec = tie.close (tie.spec (λ c. search needs) mul-t4 mul-t5 returns)

@@ -5,9 +5,6 @@ use Rattle.intervals.specs.Interval.{outI, mulI}
 use Rattle.intervals.proofs.times.Statement.{statement}
 use Rattle.intervals.proofs.times.Tie as tie
 
-mul-wide-requires : tie.Need-mul-wide-requires
-mul-wide-requires c κs = search needs
-
 outward-requires : tie.Need-outward-requires
 outward-requires c κs = rw (c .mul-wide .ensures) (c .before .pre .up)
 
@@ -16,4 +13,4 @@ unfolding mulI
 returns c = c .outward .ensures ∙ ap outI (c .before .mul-wide .ensures)
 
 pub times-spec : {M : Type 1} → statement M
-times-spec = tie.close (tie.spec mul-wide-requires outward-requires returns)
+times-spec = tie.close (tie.spec (λ c κs. search needs) outward-requires returns)

@@ -12,23 +12,11 @@ use borrow.Author.Needs.{needs}
 use Rattle.job_read.proofs.read_job.Statement.{statement}
 use Rattle.job_read.proofs.read_job.Tie as tie
 
-refused-requires : tie.Need-refused-requires
-refused-requires c κs = search needs
-
 returns : tie.Need-returns
 unfolding readJob
 returns c =
     c .refused .ensures
     ∙ sym (ap jobAnswer (read-long jobForm (c .before .before .before .args .text .now) (c .before .if1 .taken)))
-
-head-at-requires : tie.Need-head-at-requires
-head-at-requires c κs = search needs
-
-is-bad-requires : tie.Need-is-bad-requires
-is-bad-requires c κs = search needs
-
-refused-requires-2 : tie.Need-refused-requires-2
-refused-requires-2 c κs = search needs
 
 returns-2 : tie.Need-returns-2
 unfolding readJob
@@ -44,12 +32,6 @@ box-at-requires c κs =
     let whole = c .before .before .before .head-at .ensures .whole
     (sym (c .before .before .is-bad .ensures) ∙ c .before .if2 .left) in
     (leads-inside _ _ (c .before .before .before .head-at .ensures .leads), whole .few)
-
-is-bad-requires-2 : tie.Need-is-bad-requires-2
-is-bad-requires-2 c κs = search needs
-
-refused-requires-3 : tie.Need-refused-requires-3
-refused-requires-3 c κs = search needs
 
 returns-3 : tie.Need-returns-3
 unfolding readJob
@@ -71,12 +53,6 @@ system-at-requires c κs =
     let boxed = leads-on _ _ (c4 .before .before .head-at .ensures .leads)
     (sym (c4 .before .is-bad .ensures) ∙ c4 .if2 .left) (c .before .before .box-at .ensures .leads _ refl) in
     (leads-inside _ _ boxed, whole)
-
-is-bad-requires-3 : tie.Need-is-bad-requires-3
-is-bad-requires-3 c κs = search needs
-
-refused-requires-4 : tie.Need-refused-requires-4
-refused-requires-4 c κs = search needs
 
 returns-4 : tie.Need-returns-4
 unfolding readJob
@@ -100,9 +76,6 @@ job-line-number-requires c κs =
     let whole = c8 .before .before .before .head-at .ensures .whole
     (sym (c8 .before .before .is-bad .ensures) ∙ c8 .before .if2 .left) in
     omega (arith, whole .few)
-
-refused-requires-5 : tie.Need-refused-requires-5
-refused-requires-5 c κs = search needs
 
 returns-5 : tie.Need-returns-5
 unfolding readJob
@@ -139,22 +112,7 @@ returns-6 c =
 pub read-job-spec : {M : Type 1} → statement M
 read-job-spec =
     tie.close
-    (tie.spec
-    refused-requires
-    returns
-    head-at-requires
-    is-bad-requires
-    refused-requires-2
-    returns-2
-    box-at-requires
-    is-bad-requires-2
-    refused-requires-3
-    returns-3
-    system-at-requires
-    is-bad-requires-3
-    refused-requires-4
-    returns-4
-    job-line-number-requires
-    refused-requires-5
-    returns-5
+    (tie.spec (λ c κs. search needs) returns (λ c κs. search needs) (λ c κs. search needs) (λ c κs. search needs)
+    returns-2 box-at-requires (λ c κs. search needs) (λ c κs. search needs) returns-3 system-at-requires
+    (λ c κs. search needs) (λ c κs. search needs) returns-4 job-line-number-requires (λ c κs. search needs) returns-5
     returns-6)

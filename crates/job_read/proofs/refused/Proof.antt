@@ -3,15 +3,8 @@ use borrow.Author.Needs.{needs}
 use Rattle.job_read.proofs.refused.Statement.{statement}
 use Rattle.job_read.proofs.refused.Tie as tie
 
-no-job-requires : tie.Need-no-job-requires
-no-job-requires c κs = search needs
-
 returns : tie.Need-returns
 returns c = rw (c .no-job .ensures)
 
 pub refused-spec : {M : Type 1} → statement M
-refused-spec =
-    tie.close
-    (tie.spec
-    no-job-requires
-    returns)
+refused-spec = tie.close (tie.spec (λ c κs. search needs) returns)

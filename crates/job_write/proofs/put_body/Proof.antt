@@ -8,9 +8,6 @@ use Rattle.job_write.proofs.Parts.{body-long}
 use Rattle.job_write.proofs.put_body.Statement.{statement}
 use Rattle.job_write.proofs.put_body.Tie as tie
 
-slice-aggregate-put-row-line : tie.Need-slice-aggregate-put-row-line
-slice-aggregate-put-row-line c = search needs
-
 put-row-line-requires : tie.Need-put-row-line-requires
 put-row-line-requires c κs =
     let start = c .before .before .before .before .before .before in
@@ -21,9 +18,6 @@ put-row-line-requires c κs =
       room = omega (arith, start .pre .room);
       small = within-small (j .head .n) (j .ends .lo) endMax (omega arith) (a .low);
     }
-
-slice-aggregate-put-row-line-2 : tie.Need-slice-aggregate-put-row-line-2
-slice-aggregate-put-row-line-2 c = search needs
 
 put-row-line-requires-2 : tie.Need-put-row-line-requires-2
 put-row-line-requires-2 c κs =
@@ -56,9 +50,6 @@ put-inverse-line-requires c κs =
       entries = a .inverse;
     }
 
-slice-aggregate-put-count-line : tie.Need-slice-aggregate-put-count-line
-slice-aggregate-put-count-line c = search needs
-
 put-count-line-requires : tie.Need-put-count-line-requires
 put-count-line-requires c κs =
     let inv = c .before .before .before .before in
@@ -74,9 +65,6 @@ put-count-line-requires c κs =
       start .pre .room,
     )
 
-same-length : tie.Need-same-length
-same-length c = search needs
-
 returns : tie.Need-returns
 returns c =
     let steps = c .before .before in
@@ -91,13 +79,5 @@ returns c =
 pub put-body-spec : {M : Type 1} → statement M
 put-body-spec =
     tie.close
-    (tie.spec
-    slice-aggregate-put-row-line
-    put-row-line-requires
-    slice-aggregate-put-row-line-2
-    put-row-line-requires-2
-    put-inverse-line-requires
-    slice-aggregate-put-count-line
-    put-count-line-requires
-    same-length
-    returns)
+    (tie.spec (λ c. search needs) put-row-line-requires (λ c. search needs) put-row-line-requires-2
+    put-inverse-line-requires (λ c. search needs) put-count-line-requires (λ c. search needs) returns)

@@ -6,19 +6,10 @@ use Rattle.job_write.proofs.Parts.{head-long}
 use Rattle.job_write.proofs.put_head.Statement.{statement}
 use Rattle.job_write.proofs.put_head.Tie as tie
 
-slice-aggregate-put-count-line : tie.Need-slice-aggregate-put-count-line
-slice-aggregate-put-count-line c = search needs
-
-put-count-line-requires : tie.Need-put-count-line-requires
-put-count-line-requires c κs = search needs
-
 put-kind-line-requires : tie.Need-put-kind-line-requires
 put-kind-line-requires c κs =
     let start = c .before .before .before .before .before .before .before .before in
     omega (arith, c .before .before .before .put-count-line .ensures .next, head-long (start .args .j), start .pre)
-
-slice-aggregate-put-count-line-2 : tie.Need-slice-aggregate-put-count-line-2
-slice-aggregate-put-count-line-2 c = search needs
 
 put-count-line-requires-2 : tie.Need-put-count-line-requires-2
 put-count-line-requires-2 c κs =
@@ -33,9 +24,6 @@ put-count-line-requires-2 c κs =
       start .pre,
     )
 
-same-length : tie.Need-same-length
-same-length c = search needs
-
 returns : tie.Need-returns
 returns c =
     let n = c .before .before in
@@ -48,11 +36,5 @@ returns c =
 pub put-head-spec : {M : Type 1} → statement M
 put-head-spec =
     tie.close
-    (tie.spec
-    slice-aggregate-put-count-line
-    put-count-line-requires
-    put-kind-line-requires
-    slice-aggregate-put-count-line-2
-    put-count-line-requires-2
-    same-length
-    returns)
+    (tie.spec (λ c. search needs) (λ c κs. search needs) put-kind-line-requires (λ c. search needs)
+    put-count-line-requires-2 (λ c. search needs) returns)

@@ -31,9 +31,6 @@ put-system-requires c κs =
       room = omega (arith, head .put-head .ensures .next, body .put-body .ensures .next, parts-short j (start .pre));
     }
 
-same-length : tie.Need-same-length
-same-length c = search needs
-
 returns : tie.Need-returns
 returns c =
     let system = c .before .before in
@@ -43,11 +40,4 @@ returns c =
     (wrote-append (head .put-head .ensures) (wrote-append (body .put-body .ensures) (system .put-system .ensures)))
 
 pub put-job-spec : {M : Type 1} → statement M
-put-job-spec =
-    tie.close
-    (tie.spec
-    put-head-requires
-    put-body-requires
-    put-system-requires
-    same-length
-    returns)
+put-job-spec = tie.close (tie.spec put-head-requires put-body-requires put-system-requires (λ c. search needs) returns)

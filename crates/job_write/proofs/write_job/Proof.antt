@@ -6,15 +6,6 @@ use Rattle.job_form.specs.JobBytes.{jobBytes}
 use Rattle.job_write.proofs.write_job.Statement.{statement}
 use Rattle.job_write.proofs.write_job.Tie as tie
 
-check-job-requires : tie.Need-check-job-requires
-check-job-requires c κs = search needs
-
-enum-known-status : tie.Need-enum-known-status
-enum-known-status c = search needs
-
-enum-told : tie.Need-enum-told
-enum-told c = search needs
-
 write-ready-requires : tie.Need-write-ready-requires
 write-ready-requires c κs = sym (c .before .before .before .check-job .ensures) ∙ c .before .enum-told .given .1
 
@@ -23,9 +14,6 @@ returns c =
     let args = c .before .before .before .before .before .args in
     rw (sym (c .before .before .before .check-job .ensures) ∙ c .before .status .given .1)
     (values-bad (jobBytes (args .j)) (args .out .now) _ _)
-
-same-length : tie.Need-same-length
-same-length c = search needs
 
 returns-2 : tie.Need-returns-2
 returns-2 c =
@@ -36,11 +24,5 @@ returns-2 c =
 pub write-job-spec : {M : Type 1} → statement M
 write-job-spec =
     tie.close
-    (tie.spec
-    check-job-requires
-    enum-known-status
-    enum-told
-    write-ready-requires
-    returns
-    same-length
-    returns-2)
+    (tie.spec (λ c κs. search needs) (λ c. search needs) (λ c. search needs) write-ready-requires returns
+    (λ c. search needs) returns-2)

@@ -10,9 +10,6 @@ use Rattle.job_form.specs.JobBytes.{jobBytes}
 use Rattle.job_write.proofs.write_ready.Statement.{statement}
 use Rattle.job_write.proofs.write_ready.Tie as tie
 
-slice-aggregate-put-job : tie.Need-slice-aggregate-put-job
-slice-aggregate-put-job c = search needs
-
 put-job-requires : tie.Need-put-job-requires
 put-job-requires c κs = c .before .before .pre
 
@@ -24,9 +21,6 @@ returns c =
 
 put-job-requires-2 : tie.Need-put-job-requires-2
 put-job-requires-2 c κs = c .before .before .before .before .before .before .pre
-
-same-length : tie.Need-same-length
-same-length c = search needs
 
 returns-2 : tie.Need-returns-2
 returns-2 c =
@@ -41,10 +35,4 @@ returns-2 c =
 pub write-ready-spec : {M : Type 1} → statement M
 write-ready-spec =
     tie.close
-    (tie.spec
-    slice-aggregate-put-job
-    put-job-requires
-    returns
-    put-job-requires-2
-    same-length
-    returns-2)
+    (tie.spec (λ c. search needs) put-job-requires returns put-job-requires-2 (λ c. search needs) returns-2)

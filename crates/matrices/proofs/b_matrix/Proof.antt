@@ -11,12 +11,14 @@ use Rattle.intervals.specs.Interval.{zeroI, pointI, addI, negI, outI}
 use Rattle.intervals.specs.Places.{entryAt, cellAt, vectorOf}
 use Rattle.intervals.proofs.Sums.{sumI-none, sumI-more, sumI-done}
 use Rattle.matrices.specs.Products.{dotI, entryB, bOf}
-use Rattle.matrices.proofs.Ranges.{product-fits, more-fits, read-fits, read-back, dot-b, turned-fits, rest-fits, round-rest}
+use Rattle.matrices.proofs.Ranges.{product-fits, more-fits, read-fits, read-back}
+use Rattle.matrices.proofs.Ranges.{dot-b, turned-fits, rest-fits, round-rest}
 use Rattle.matrices.proofs.b_matrix.Statement.{statement}
 use Rattle.matrices.proofs.b_matrix.Tie as tie
 
 abbrev Inv-loop3 : tie.InvT-loop3
-Inv-loop3 n c s b i row line j sum₀ k₀ sum k = (k ≤ n) × (sum ≡ dotI k (λ m. pointI (entryAt c i m)) (λ m. cellAt s m j))
+Inv-loop3 n c s b i row line j sum₀ k₀ sum k =
+    (k ≤ n) × (sum ≡ dotI k (λ m. pointI (entryAt c i m)) (λ m. cellAt s m j))
 
 abbrev μ-loop3 : tie.MeasureT-loop3
 μ-loop3 n c s b i row line j sum₀ k₀ sum k = n - k
@@ -28,20 +30,14 @@ abbrev μ-loop2 : tie.MeasureT-loop2
 μ-loop2 n c s b i row line₀ j₀ line j = n - j
 
 abbrev Inv-loop : tie.InvT-loop
-Inv-loop n c s b₀ i₀ b i = (i ≤ n) × (b ≡ tab nMax i (replicate nMax zeroI) (λ m. vectorOf n (bOf n (entryAt c) (cellAt s) m)))
+Inv-loop n c s b₀ i₀ b i =
+    (i ≤ n) × (b ≡ tab nMax i (replicate nMax zeroI) (λ m. vectorOf n (bOf n (entryAt c) (cellAt s) m)))
 
 abbrev μ-loop : tie.MeasureT-loop
 μ-loop n c s b₀ i₀ b i = n - i
 
 loop-holds : tie.Need-loop-holds Inv-loop3 μ-loop3 Inv-loop2 μ-loop2 Inv-loop μ-loop
 loop-holds c = (omega arith, tab-none (replicate nMax zeroI) nMax _)
-
-mul-row : tie.Need-mul-row Inv-loop3 μ-loop3 Inv-loop2 μ-loop2 Inv-loop μ-loop
-mul-row c = omega arith
-
-array-copy-out-row :
-    tie.Need-array-copy-out-row Inv-loop3 μ-loop3 Inv-loop2 μ-loop2 Inv-loop μ-loop
-array-copy-out-row c = omega arith
 
 loop2-holds : tie.Need-loop2-holds Inv-loop3 μ-loop3 Inv-loop2 μ-loop2 Inv-loop μ-loop
 loop2-holds c = (omega arith, tab-none zeroI nMax _)
@@ -50,32 +46,14 @@ loop3-holds : tie.Need-loop3-holds Inv-loop3 μ-loop3 Inv-loop2 μ-loop2 Inv-loo
 unfolding dotI
 loop3-holds c = (omega arith, sumI-none _)
 
-mul-mul-point : tie.Need-mul-mul-point Inv-loop3 μ-loop3 Inv-loop2 μ-loop2 Inv-loop μ-loop
-mul-mul-point c = omega arith
-
-array-copy-out-mul-point :
-    tie.Need-array-copy-out-mul-point Inv-loop3 μ-loop3 Inv-loop2 μ-loop2 Inv-loop μ-loop
-array-copy-out-mul-point c = omega arith
-
-mul-mul-point-2 : tie.Need-mul-mul-point-2 Inv-loop3 μ-loop3 Inv-loop2 μ-loop2 Inv-loop μ-loop
-mul-mul-point-2 c = omega arith
-
-mul-mul-point-3 : tie.Need-mul-mul-point-3 Inv-loop3 μ-loop3 Inv-loop2 μ-loop2 Inv-loop μ-loop
-mul-mul-point-3 c = omega arith
-
-index-1-mul-point : tie.Need-index-1-mul-point Inv-loop3 μ-loop3 Inv-loop2 μ-loop2 Inv-loop μ-loop
-index-1-mul-point c = omega arith
-
-index-2-mul-point : tie.Need-index-2-mul-point Inv-loop3 μ-loop3 Inv-loop2 μ-loop2 Inv-loop μ-loop
-index-2-mul-point c = omega arith
-
 mul-point-requires :
     tie.Need-mul-point-requires Inv-loop3 μ-loop3 Inv-loop2 μ-loop2 Inv-loop μ-loop
 mul-point-requires c κs =
     let t = c .before .before in
     let j = t .before .before in
     let i = j .before .before .before in
-    let within = dot-b (i .before .before .pre) (i .before .loop .i) (i .loop-test .taken) (j .before .loop2 .j) (j .loop2-test .taken) in
+    let within = dot-b (i .before .before .pre) (i .before .loop .i) (i .loop-test .taken) (j .before .loop2 .j)
+    (j .loop2-test .taken) in
     read-fits (c .before .mul-point-arg .given) (product-fits within (t .before .loop3 .k) (t .loop3-test .taken))
 
 add-requires : tie.Need-add-requires Inv-loop3 μ-loop3 Inv-loop2 μ-loop2 Inv-loop μ-loop
@@ -83,24 +61,19 @@ add-requires c κs =
     let t = c .before .before .before in
     let j = t .before .before in
     let i = j .before .before .before in
-    let within = dot-b (i .before .before .pre) (i .before .loop .i) (i .loop-test .taken) (j .before .loop2 .j) (j .loop2-test .taken) in
+    let within = dot-b (i .before .before .pre) (i .before .loop .i) (i .loop-test .taken) (j .before .loop2 .j)
+    (j .loop2-test .taken) in
     let product = read-back _ _ (c .before .before .mul-point-arg .given) (c .mul-point .ensures) in
     more-fits within (t .before .loop3 .k) (t .loop3-test .taken) (t .before .loop3 .inv .1) product
-
-add-k : tie.Need-add-k Inv-loop3 μ-loop3 Inv-loop2 μ-loop2 Inv-loop μ-loop
-add-k c = omega arith
-
-loop3-less : tie.Need-loop3-less Inv-loop3 μ-loop3 Inv-loop2 μ-loop2 Inv-loop μ-loop
-loop3-less c = omega arith
 
 loop3-again : tie.Need-loop3-again Inv-loop3 μ-loop3 Inv-loop2 μ-loop2 Inv-loop μ-loop
 unfolding dotI
 loop3-again c =
-    let a = c .before .before .before in
-    (omega arith, sumI-more _ _ (c .add .ensures) (a .before .before .loop3 .inv .1) (read-back _ _ (a .mul-point-arg .given) (c .before .mul-point .ensures)))
-
-unit-requires : tie.Need-unit-requires Inv-loop3 μ-loop3 Inv-loop2 μ-loop2 Inv-loop μ-loop
-unit-requires c κs = search needs
+    let a = c .before .before .before in (
+      omega arith,
+      sumI-more _ _ (c .add .ensures) (a .before .before .loop3 .inv .1)
+          (read-back _ _ (a .mul-point-arg .given) (c .before .mul-point .ensures)),
+    )
 
 negated-requires : tie.Need-negated-requires Inv-loop3 μ-loop3 Inv-loop2 μ-loop2 Inv-loop μ-loop
 unfolding dotI
@@ -109,7 +82,8 @@ negated-requires c κs =
     let j = u .before in
     let i = j .before .before .before in
     let sum = sumI-done _ (u .loop3 .inv .0) (c .before .loop3-test .left) (u .loop3 .inv .1) in
-    turned-fits (i .before .before .pre) (i .before .loop .i) (i .loop-test .taken) (j .before .loop2 .j) (j .loop2-test .taken) sum
+    turned-fits (i .before .before .pre) (i .before .loop .i) (i .loop-test .taken) (j .before .loop2 .j)
+    (j .loop2-test .taken) sum
 
 add-requires-2 : tie.Need-add-requires-2 Inv-loop3 μ-loop3 Inv-loop2 μ-loop2 Inv-loop μ-loop
 unfolding dotI
@@ -118,7 +92,8 @@ add-requires-2 c κs =
     let j = u .before in
     let i = j .before .before .before in
     let sum = sumI-done _ (u .loop3 .inv .0) (c .before .before .loop3-test .left) (u .loop3 .inv .1) in
-    rest-fits (i .before .before .pre) (i .before .loop .i) (i .loop-test .taken) (j .before .loop2 .j) (j .loop2-test .taken)
+    rest-fits (i .before .before .pre) (i .before .loop .i) (i .loop-test .taken) (j .before .loop2 .j)
+    (j .loop2-test .taken)
     (c .before .unit .ensures)
     (c .negated .ensures ∙ ap negI sum)
 
@@ -129,21 +104,9 @@ outward-requires c κs =
     let j = u .before in
     let i = j .before .before .before in
     let sum = sumI-done _ (u .loop3 .inv .0) (c .before .before .before .loop3-test .left) (u .loop3 .inv .1) in
-    round-rest (i .before .before .pre) (i .before .loop .i) (i .loop-test .taken) (j .before .loop2 .j) (j .loop2-test .taken)
+    round-rest (i .before .before .pre) (i .before .loop .i) (i .loop-test .taken) (j .before .loop2 .j)
+    (j .loop2-test .taken)
     (c .add2 .ensures ∙ ap₂ addI (c .before .before .unit .ensures) (c .before .negated .ensures ∙ ap negI sum))
-
-mul-line : tie.Need-mul-line Inv-loop3 μ-loop3 Inv-loop2 μ-loop2 Inv-loop μ-loop
-mul-line c = omega arith
-
-array-set-from-line :
-    tie.Need-array-set-from-line Inv-loop3 μ-loop3 Inv-loop2 μ-loop2 Inv-loop μ-loop
-array-set-from-line c = omega arith
-
-add-j : tie.Need-add-j Inv-loop3 μ-loop3 Inv-loop2 μ-loop2 Inv-loop μ-loop
-add-j c = omega arith
-
-loop2-less : tie.Need-loop2-less Inv-loop3 μ-loop3 Inv-loop2 μ-loop2 Inv-loop μ-loop
-loop2-less c = omega arith
 
 loop2-again : tie.Need-loop2-again Inv-loop3 μ-loop3 Inv-loop2 μ-loop2 Inv-loop μ-loop
 unfolding dotI bOf entryB
@@ -151,20 +114,10 @@ loop2-again c =
     let d = c .before .before in
     let u = d .before .before .before in
     let sum = sumI-done _ (u .loop3 .inv .0) (d .before .before .loop3-test .left) (u .loop3 .inv .1) in
-    let rest = c .before .add2 .ensures ∙ ap₂ addI (d .before .unit .ensures) (d .negated .ensures ∙ ap negI sum) in
-    (omega arith, tab-more zeroI nMax _ _ (omega arith) (u .before .before .loop2 .inv .1) (c .outward .ensures ∙ ap outI rest))
-
-mul-b : tie.Need-mul-b Inv-loop3 μ-loop3 Inv-loop2 μ-loop2 Inv-loop μ-loop
-mul-b c = omega arith
-
-array-set-from-b : tie.Need-array-set-from-b Inv-loop3 μ-loop3 Inv-loop2 μ-loop2 Inv-loop μ-loop
-array-set-from-b c = omega arith
-
-add-i : tie.Need-add-i Inv-loop3 μ-loop3 Inv-loop2 μ-loop2 Inv-loop μ-loop
-add-i c = omega arith
-
-loop-less : tie.Need-loop-less Inv-loop3 μ-loop3 Inv-loop2 μ-loop2 Inv-loop μ-loop
-loop-less c = omega arith
+    let rest = c .before .add2 .ensures ∙ ap₂ addI (d .before .unit .ensures) (d .negated .ensures ∙ ap negI sum) in (
+      omega arith,
+      tab-more zeroI nMax _ _ (omega arith) (u .before .before .loop2 .inv .1) (c .outward .ensures ∙ ap outI rest),
+    )
 
 loop-again : tie.Need-loop-again Inv-loop3 μ-loop3 Inv-loop2 μ-loop2 Inv-loop μ-loop
 loop-again c =
@@ -174,46 +127,15 @@ loop-again c =
     (omega arith, tab-more (replicate nMax zeroI) nMax _ _ (omega arith) (l .loop .inv .1) line)
 
 returns : tie.Need-returns Inv-loop3 μ-loop3 Inv-loop2 μ-loop2 Inv-loop μ-loop
-returns c = tab-done (replicate nMax zeroI) nMax _ (c .before .loop .inv .0) (c .loop-test .left) (c .before .loop .inv .1)
+returns c =
+    tab-done (replicate nMax zeroI) nMax _ (c .before .loop .inv .0) (c .loop-test .left) (c .before .loop .inv .1)
 
 pub b-matrix-spec : {M : Type 1} → statement M
 b-matrix-spec =
     tie.close
-    (tie.spec
-    Inv-loop3
-    μ-loop3
-    Inv-loop2
-    μ-loop2
-    Inv-loop
-    μ-loop
-    loop-holds
-    mul-row
-    array-copy-out-row
-    loop2-holds
-    loop3-holds
-    mul-mul-point
-    array-copy-out-mul-point
-    mul-mul-point-2
-    mul-mul-point-3
-    index-1-mul-point
-    index-2-mul-point
-    mul-point-requires
-    add-requires
-    add-k
-    loop3-less
-    loop3-again
-    unit-requires
-    negated-requires
-    add-requires-2
-    outward-requires
-    mul-line
-    array-set-from-line
-    add-j
-    loop2-less
-    loop2-again
-    mul-b
-    array-set-from-b
-    add-i
-    loop-less
-    loop-again
-    returns)
+    (tie.spec Inv-loop3 μ-loop3 Inv-loop2 μ-loop2 Inv-loop μ-loop loop-holds (λ c. omega arith) (λ c. omega arith)
+    loop2-holds loop3-holds (λ c. omega arith) (λ c. omega arith) (λ c. omega arith) (λ c. omega arith)
+    (λ c. omega arith) (λ c. omega arith) mul-point-requires add-requires (λ c. omega arith) (λ c. omega arith)
+    loop3-again (λ c κs. search needs) negated-requires add-requires-2 outward-requires (λ c. omega arith)
+    (λ c. omega arith) (λ c. omega arith) (λ c. omega arith) loop2-again (λ c. omega arith) (λ c. omega arith)
+    (λ c. omega arith) (λ c. omega arith) loop-again returns)

@@ -2,7 +2,6 @@
 use mathlib.Core.Path.{_≡_, ap, _∙_}
 use Prim.Native.Nat.{_≤_, _-_}
 use native.Mathlib.Omega.{arith}
-use borrow.Author.Needs.{needs}
 use Rattle.sizes.specs.Sizes.{nMax}
 use Rattle.lists.specs.Loops.{tab}
 use Rattle.lists.proofs.Tab.{tab-none, tab-more, tab-done}
@@ -29,27 +28,9 @@ abbrev μ-loop : tie.MeasureT-loop
 loop-holds : tie.Need-loop-holds Inv-loop2 μ-loop2 Inv-loop μ-loop
 loop-holds c = (omega arith, tab-none zeroI nMax _)
 
-mul-row : tie.Need-mul-row Inv-loop2 μ-loop2 Inv-loop μ-loop
-mul-row c = omega arith
-
-array-copy-out-row : tie.Need-array-copy-out-row Inv-loop2 μ-loop2 Inv-loop μ-loop
-array-copy-out-row c = omega arith
-
 loop2-holds : tie.Need-loop2-holds Inv-loop2 μ-loop2 Inv-loop μ-loop
 unfolding dotI
 loop2-holds c = (omega arith, sumI-none _)
-
-mul-mul-point : tie.Need-mul-mul-point Inv-loop2 μ-loop2 Inv-loop μ-loop
-mul-mul-point c = omega arith
-
-array-copy-out-mul-point : tie.Need-array-copy-out-mul-point Inv-loop2 μ-loop2 Inv-loop μ-loop
-array-copy-out-mul-point c = omega arith
-
-mul-mul-point-2 : tie.Need-mul-mul-point-2 Inv-loop2 μ-loop2 Inv-loop μ-loop
-mul-mul-point-2 c = omega arith
-
-array-copy-out-mul-point-2 : tie.Need-array-copy-out-mul-point-2 Inv-loop2 μ-loop2 Inv-loop μ-loop
-array-copy-out-mul-point-2 c = omega arith
 
 mul-point-requires : tie.Need-mul-point-requires Inv-loop2 μ-loop2 Inv-loop μ-loop
 mul-point-requires c κs =
@@ -66,17 +47,14 @@ add-requires c κs =
     let product = read-back _ _ (c .before .before .mul-point-arg .given) (c .mul-point .ensures) in
     more-fits within (t .before .loop2 .k) (t .loop2-test .taken) (t .before .loop2 .inv .1) product
 
-add-k : tie.Need-add-k Inv-loop2 μ-loop2 Inv-loop μ-loop
-add-k c = omega arith
-
-loop2-less : tie.Need-loop2-less Inv-loop2 μ-loop2 Inv-loop μ-loop
-loop2-less c = omega arith
-
 loop2-again : tie.Need-loop2-again Inv-loop2 μ-loop2 Inv-loop μ-loop
 unfolding dotI
 loop2-again c =
-    let a = c .before .before .before in
-    (omega arith, sumI-more _ _ (c .add .ensures) (a .before .before .loop2 .inv .1) (read-back _ _ (a .mul-point-arg .given) (c .before .mul-point .ensures)))
+    let a = c .before .before .before in (
+      omega arith,
+      sumI-more _ _ (c .add .ensures) (a .before .before .loop2 .inv .1)
+          (read-back _ _ (a .mul-point-arg .given) (c .before .mul-point .ensures)),
+    )
 
 outward-requires : tie.Need-outward-requires Inv-loop2 μ-loop2 Inv-loop μ-loop
 unfolding dotI
@@ -85,18 +63,6 @@ outward-requires c κs =
     let o = u .before .before in
     let sum = sumI-done _ (u .loop2 .inv .0) (c .loop2-test .left) (u .loop2 .inv .1) in
     round-fits (dot-d (o .before .before .pre) (o .before .loop .i) (o .loop-test .taken)) sum
-
-mul-d : tie.Need-mul-d Inv-loop2 μ-loop2 Inv-loop μ-loop
-mul-d c = omega arith
-
-array-set-from-d : tie.Need-array-set-from-d Inv-loop2 μ-loop2 Inv-loop μ-loop
-array-set-from-d c = omega arith
-
-add-i : tie.Need-add-i Inv-loop2 μ-loop2 Inv-loop μ-loop
-add-i c = omega arith
-
-loop-less : tie.Need-loop-less Inv-loop2 μ-loop2 Inv-loop μ-loop
-loop-less c = omega arith
 
 loop-again : tie.Need-loop-again Inv-loop2 μ-loop2 Inv-loop μ-loop
 unfolding dotI dOf
@@ -112,28 +78,7 @@ returns c = tab-done zeroI nMax _ (c .before .loop .inv .0) (c .loop-test .left)
 pub d-vector-spec : {M : Type 1} → statement M
 d-vector-spec =
     tie.close
-    (tie.spec
-    Inv-loop2
-    μ-loop2
-    Inv-loop
-    μ-loop
-    loop-holds
-    mul-row
-    array-copy-out-row
-    loop2-holds
-    mul-mul-point
-    array-copy-out-mul-point
-    mul-mul-point-2
-    array-copy-out-mul-point-2
-    mul-point-requires
-    add-requires
-    add-k
-    loop2-less
-    loop2-again
-    outward-requires
-    mul-d
-    array-set-from-d
-    add-i
-    loop-less
-    loop-again
-    returns)
+    (tie.spec Inv-loop2 μ-loop2 Inv-loop μ-loop loop-holds (λ c. omega arith) (λ c. omega arith) loop2-holds
+    (λ c. omega arith) (λ c. omega arith) (λ c. omega arith) (λ c. omega arith) mul-point-requires add-requires
+    (λ c. omega arith) (λ c. omega arith) loop2-again outward-requires (λ c. omega arith) (λ c. omega arith)
+    (λ c. omega arith) (λ c. omega arith) loop-again returns)

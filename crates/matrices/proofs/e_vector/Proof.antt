@@ -2,7 +2,6 @@
 use mathlib.Core.Path.{_≡_, ap, _∙_}
 use Prim.Native.Nat.{_≤_, _-_}
 use native.Mathlib.Omega.{arith}
-use borrow.Author.Needs.{needs}
 use Rattle.sizes.specs.Sizes.{nMax}
 use Rattle.lists.specs.Loops.{tab}
 use Rattle.lists.proofs.Tab.{tab-none, tab-more, tab-done}
@@ -29,27 +28,9 @@ abbrev μ-loop : tie.MeasureT-loop
 loop-holds : tie.Need-loop-holds Inv-loop2 μ-loop2 Inv-loop μ-loop
 loop-holds c = (omega arith, tab-none zeroI nMax _)
 
-mul-row : tie.Need-mul-row Inv-loop2 μ-loop2 Inv-loop μ-loop
-mul-row c = omega arith
-
-array-copy-out-row : tie.Need-array-copy-out-row Inv-loop2 μ-loop2 Inv-loop μ-loop
-array-copy-out-row c = omega arith
-
 loop2-holds : tie.Need-loop2-holds Inv-loop2 μ-loop2 Inv-loop μ-loop
 unfolding dotI
 loop2-holds c = (omega arith, sumI-none _)
-
-mul-mul-around : tie.Need-mul-mul-around Inv-loop2 μ-loop2 Inv-loop μ-loop
-mul-mul-around c = omega arith
-
-array-copy-out-mul-around : tie.Need-array-copy-out-mul-around Inv-loop2 μ-loop2 Inv-loop μ-loop
-array-copy-out-mul-around c = omega arith
-
-mul-mul-around-2 : tie.Need-mul-mul-around-2 Inv-loop2 μ-loop2 Inv-loop μ-loop
-mul-mul-around-2 c = omega arith
-
-array-copy-out-mul-around-2 : tie.Need-array-copy-out-mul-around-2 Inv-loop2 μ-loop2 Inv-loop μ-loop
-array-copy-out-mul-around-2 c = omega arith
 
 mul-around-requires : tie.Need-mul-around-requires Inv-loop2 μ-loop2 Inv-loop μ-loop
 mul-around-requires c κs =
@@ -69,12 +50,6 @@ add-requires c κs =
     let within = dot-e (o .before .before .pre) (o .before .loop .i) (o .loop-test .taken) in
     more-fits within (t .before .loop2 .k) (t .loop2-test .taken) (t .before .loop2 .inv .1) (c .mul-around .ensures)
 
-add-k : tie.Need-add-k Inv-loop2 μ-loop2 Inv-loop μ-loop
-add-k c = omega arith
-
-loop2-less : tie.Need-loop2-less Inv-loop2 μ-loop2 Inv-loop μ-loop
-loop2-less c = omega arith
-
 loop2-again : tie.Need-loop2-again Inv-loop2 μ-loop2 Inv-loop μ-loop
 unfolding dotI
 loop2-again c =
@@ -88,18 +63,6 @@ outward-requires c κs =
     let o = u .before .before in
     let sum = sumI-done _ (u .loop2 .inv .0) (c .loop2-test .left) (u .loop2 .inv .1) in
     round-fits (dot-e (o .before .before .pre) (o .before .loop .i) (o .loop-test .taken)) sum
-
-mul-e : tie.Need-mul-e Inv-loop2 μ-loop2 Inv-loop μ-loop
-mul-e c = omega arith
-
-array-set-from-e : tie.Need-array-set-from-e Inv-loop2 μ-loop2 Inv-loop μ-loop
-array-set-from-e c = omega arith
-
-add-i : tie.Need-add-i Inv-loop2 μ-loop2 Inv-loop μ-loop
-add-i c = omega arith
-
-loop-less : tie.Need-loop-less Inv-loop2 μ-loop2 Inv-loop μ-loop
-loop-less c = omega arith
 
 loop-again : tie.Need-loop-again Inv-loop2 μ-loop2 Inv-loop μ-loop
 unfolding dotI eOf
@@ -115,28 +78,7 @@ returns c = tab-done zeroI nMax _ (c .before .loop .inv .0) (c .loop-test .left)
 pub e-vector-spec : {M : Type 1} → statement M
 e-vector-spec =
     tie.close
-    (tie.spec
-    Inv-loop2
-    μ-loop2
-    Inv-loop
-    μ-loop
-    loop-holds
-    mul-row
-    array-copy-out-row
-    loop2-holds
-    mul-mul-around
-    array-copy-out-mul-around
-    mul-mul-around-2
-    array-copy-out-mul-around-2
-    mul-around-requires
-    add-requires
-    add-k
-    loop2-less
-    loop2-again
-    outward-requires
-    mul-e
-    array-set-from-e
-    add-i
-    loop-less
-    loop-again
-    returns)
+    (tie.spec Inv-loop2 μ-loop2 Inv-loop μ-loop loop-holds (λ c. omega arith) (λ c. omega arith) loop2-holds
+    (λ c. omega arith) (λ c. omega arith) (λ c. omega arith) (λ c. omega arith) mul-around-requires add-requires
+    (λ c. omega arith) (λ c. omega arith) loop2-again outward-requires (λ c. omega arith) (λ c. omega arith)
+    (λ c. omega arith) (λ c. omega arith) loop-again returns)

@@ -7,21 +7,6 @@ use borrow.Author.Needs.{needs}
 use Rattle.result_read.proofs.box_at.Statement.{statement}
 use Rattle.result_read.proofs.box_at.Tie as tie
 
-any-low-line-requires : tie.Need-any-low-line-requires
-any-low-line-requires c κs = search needs
-
-result-line-number-requires : tie.Need-result-line-number-requires
-result-line-number-requires c κs = search needs
-
-on-line-requires : tie.Need-on-line-requires
-on-line-requires c κs = search needs
-
-is-bad-requires : tie.Need-is-bad-requires
-is-bad-requires c κs = search needs
-
-no-box-requires : tie.Need-no-box-requires
-no-box-requires c κs = search needs
-
 returns : tie.Need-returns
 returns c =
     let c4 = c .before .before .before .before in
@@ -48,12 +33,6 @@ high-line-requires c κs =
           (c .before .before .is-bad .ensures) ∙ c .before .if1 .left),
     )
 
-result-line-number-requires-2 : tie.Need-result-line-number-requires-2
-result-line-number-requires-2 c κs = search needs
-
-on-line-requires-2 : tie.Need-on-line-requires-2
-on-line-requires-2 c κs = search needs
-
 returns-2 : tie.Need-returns-2
 returns-2 c =
     let c4 = c .before .before .before .before in
@@ -73,14 +52,5 @@ returns-2 c =
 pub box-at-spec : {M : Type 1} → statement M
 box-at-spec =
     tie.close
-    (tie.spec
-    any-low-line-requires
-    result-line-number-requires
-    on-line-requires
-    is-bad-requires
-    no-box-requires
-    returns
-    high-line-requires
-    result-line-number-requires-2
-    on-line-requires-2
-    returns-2)
+    (tie.spec (λ c κs. search needs) (λ c κs. search needs) (λ c κs. search needs) (λ c κs. search needs)
+    (λ c κs. search needs) returns high-line-requires (λ c κs. search needs) (λ c κs. search needs) returns-2)

@@ -11,23 +11,11 @@ use borrow.Author.Needs.{needs}
 use Rattle.result_read.proofs.read_result.Statement.{statement}
 use Rattle.result_read.proofs.read_result.Tie as tie
 
-refused-requires : tie.Need-refused-requires
-refused-requires c κs = search needs
-
 returns : tie.Need-returns
 unfolding readResult
 returns c =
     c .refused .ensures
     ∙ sym (ap resultAnswer (read-long resultForm (c .before .before .before .args .text .now) (c .before .if1 .taken)))
-
-told-at-requires : tie.Need-told-at-requires
-told-at-requires c κs = search needs
-
-is-bad-requires : tie.Need-is-bad-requires
-is-bad-requires c κs = search needs
-
-refused-requires-2 : tie.Need-refused-requires-2
-refused-requires-2 c κs = search needs
 
 returns-2 : tie.Need-returns-2
 unfolding readResult
@@ -37,15 +25,6 @@ returns-2 c =
     ∙ sym (read-bad resultForm (c4 .before .before .args .text .now) (c4 .if1 .left)
     (c .before .before .before .told-at .ensures) resultAnswer refusedWith (λ f n. refl)
     (sym (c .before .before .is-bad .ensures) ∙ c .before .if2 .taken))
-
-box-at-requires : tie.Need-box-at-requires
-box-at-requires c κs = search needs
-
-is-bad-requires-2 : tie.Need-is-bad-requires-2
-is-bad-requires-2 c κs = search needs
-
-refused-requires-3 : tie.Need-refused-requires-3
-refused-requires-3 c κs = search needs
 
 returns-3 : tie.Need-returns-3
 unfolding readResult
@@ -58,12 +37,6 @@ returns-3 c =
     ∙ sym (read-bad resultForm (c8 .before .args .text .now)
     (c4 .before .before .before .if1 .left) boxed resultAnswer refusedWith (λ f n. refl)
     (sym (c .before .before .is-bad2 .ensures) ∙ c .before .if3 .taken))
-
-result-line-number-requires : tie.Need-result-line-number-requires
-result-line-number-requires c κs = search needs
-
-refused-requires-4 : tie.Need-refused-requires-4
-refused-requires-4 c κs = search needs
 
 returns-4 : tie.Need-returns-4
 unfolding readResult
@@ -96,18 +69,6 @@ returns-5 c =
 pub read-result-spec : {M : Type 1} → statement M
 read-result-spec =
     tie.close
-    (tie.spec
-    refused-requires
-    returns
-    told-at-requires
-    is-bad-requires
-    refused-requires-2
-    returns-2
-    box-at-requires
-    is-bad-requires-2
-    refused-requires-3
-    returns-3
-    result-line-number-requires
-    refused-requires-4
-    returns-4
-    returns-5)
+    (tie.spec (λ c κs. search needs) returns (λ c κs. search needs) (λ c κs. search needs) (λ c κs. search needs)
+    returns-2 (λ c κs. search needs) (λ c κs. search needs) (λ c κs. search needs) returns-3 (λ c κs. search needs)
+    (λ c κs. search needs) returns-4 returns-5)

@@ -3,11 +3,8 @@ use borrow.Author.Needs.{needs}
 use Rattle.result_read.proofs.refused.Statement.{statement}
 use Rattle.result_read.proofs.refused.Tie as tie
 
-no-result-requires : tie.Need-no-result-requires
-no-result-requires c κs = search needs
-
 returns : tie.Need-returns
 returns c = rw (c .no-result .ensures)
 
 pub refused-spec : {M : Type 1} → statement M
-refused-spec = tie.close (tie.spec no-result-requires returns)
+refused-spec = tie.close (tie.spec (λ c κs. search needs) returns)

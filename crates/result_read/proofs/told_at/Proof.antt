@@ -8,21 +8,6 @@ use borrow.Author.Needs.{needs}
 use Rattle.result_read.proofs.told_at.Statement.{statement}
 use Rattle.result_read.proofs.told_at.Tie as tie
 
-number-line-requires : tie.Need-number-line-requires
-number-line-requires c κs = search needs
-
-result-line-number-requires : tie.Need-result-line-number-requires
-result-line-number-requires c κs = search needs
-
-on-line-requires : tie.Need-on-line-requires
-on-line-requires c κs = search needs
-
-is-bad-requires : tie.Need-is-bad-requires
-is-bad-requires c κs = search needs
-
-no-told-requires : tie.Need-no-told-requires
-no-told-requires c κs = search needs
-
 returns : tie.Need-returns
 returns c =
     let c4 = c .before .before .before .before in
@@ -40,18 +25,6 @@ verdict-line-requires c κs =
     number-leads t noResult 0 (omega arith) (c4 .number-line .ensures) (c .before .before .on-line .ensures)
     (c .before .before .before .result-line-number .ensures) in
     leads-inside _ _ number
-
-result-line-number-requires-2 : tie.Need-result-line-number-requires-2
-result-line-number-requires-2 c κs = search needs
-
-on-line-requires-2 : tie.Need-on-line-requires-2
-on-line-requires-2 c κs = search needs
-
-is-bad-requires-2 : tie.Need-is-bad-requires-2
-is-bad-requires-2 c κs = search needs
-
-no-told-requires-2 : tie.Need-no-told-requires-2
-no-told-requires-2 c κs = search needs
 
 returns-2 : tie.Need-returns-2
 returns-2 c =
@@ -83,12 +56,6 @@ steps-line-requires c κs =
     (c .before .before .before .result-line-number2 .ensures)) in
     leads-inside _ _ verdict
 
-result-line-number-requires-3 : tie.Need-result-line-number-requires-3
-result-line-number-requires-3 c κs = search needs
-
-on-line-requires-3 : tie.Need-on-line-requires-3
-on-line-requires-3 c κs = search needs
-
 returns-3 : tie.Need-returns-3
 returns-3 c =
     let c4 = c .before .before .before .before in
@@ -109,20 +76,7 @@ returns-3 c =
 pub told-at-spec : {M : Type 1} → statement M
 told-at-spec =
     tie.close
-    (tie.spec
-    number-line-requires
-    result-line-number-requires
-    on-line-requires
-    is-bad-requires
-    no-told-requires
-    returns
-    verdict-line-requires
-    result-line-number-requires-2
-    on-line-requires-2
-    is-bad-requires-2
-    no-told-requires-2
-    returns-2
-    steps-line-requires
-    result-line-number-requires-3
-    on-line-requires-3
-    returns-3)
+    (tie.spec (λ c κs. search needs) (λ c κs. search needs) (λ c κs. search needs) (λ c κs. search needs)
+    (λ c κs. search needs) returns verdict-line-requires (λ c κs. search needs) (λ c κs. search needs)
+    (λ c κs. search needs) (λ c κs. search needs) returns-2 steps-line-requires (λ c κs. search needs)
+    (λ c κs. search needs) returns-3)

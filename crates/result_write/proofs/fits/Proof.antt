@@ -16,14 +16,8 @@ returns c =
     sym (le-leb (length (showResult (args .r))) (args .room)
     (omega (arith, result-short (args .r) (c .before .pre .few), c .if1 .taken)))
 
-slice-aggregate-put-result : tie.Need-slice-aggregate-put-result
-slice-aggregate-put-result c = search needs
-
-put-result-requires : tie.Need-put-result-requires
-put-result-requires c κs = search needs
-
 returns-2 : tie.Need-returns-2
 returns-2 c = rw (c .before .put-result .ensures .next ∙ zero-add _) refl
 
 pub fits-spec : {M : Type 1} → statement M
-fits-spec = tie.close (tie.spec returns slice-aggregate-put-result put-result-requires returns-2)
+fits-spec = tie.close (tie.spec returns (λ c. search needs) (λ c κs. search needs) returns-2)

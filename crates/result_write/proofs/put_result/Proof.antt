@@ -6,20 +6,11 @@ use Rattle.result_write.proofs.Ready.{lines-short}
 use Rattle.result_write.proofs.put_result.Statement.{statement}
 use Rattle.result_write.proofs.put_result.Tie as tie
 
-slice-aggregate-put-count-line : tie.Need-slice-aggregate-put-count-line
-slice-aggregate-put-count-line c = search needs
-
-put-count-line-requires : tie.Need-put-count-line-requires
-put-count-line-requires c κs = search needs
-
 put-verdict-requires : tie.Need-put-verdict-requires
 put-verdict-requires c κs =
     let job = c .before .before .before in
     let start = job .before .before .before .before .before .before in
     omega (arith, job .put-count-line .ensures .next, lines-short (start .args .r) (start .pre .few))
-
-slice-aggregate-put-count-line-2 : tie.Need-slice-aggregate-put-count-line-2
-slice-aggregate-put-count-line-2 c = search needs
 
 put-count-line-requires-2 : tie.Need-put-count-line-requires-2
 put-count-line-requires-2 c κs =
@@ -32,9 +23,6 @@ put-count-line-requires-2 c κs =
       verdict .put-verdict .ensures .next,
       lines-short (start .args .r) (start .pre .few),
     )
-
-slice-aggregate-put-row-line : tie.Need-slice-aggregate-put-row-line
-slice-aggregate-put-row-line c = search needs
 
 put-row-line-requires : tie.Need-put-row-line-requires
 put-row-line-requires c κs =
@@ -53,9 +41,6 @@ put-row-line-requires c κs =
       );
       small = start .pre .low;
     }
-
-slice-aggregate-put-row-line-2 : tie.Need-slice-aggregate-put-row-line-2
-slice-aggregate-put-row-line-2 c = search needs
 
 put-row-line-requires-2 : tie.Need-put-row-line-requires-2
 put-row-line-requires-2 c κs =
@@ -77,9 +62,6 @@ put-row-line-requires-2 c κs =
       small = start .pre .high;
     }
 
-same-length : tie.Need-same-length
-same-length c = search needs
-
 returns : tie.Need-returns
 returns c =
     let hi = c .before .before in
@@ -96,15 +78,6 @@ returns c =
 pub put-result-spec : {M : Type 1} → statement M
 put-result-spec =
     tie.close
-    (tie.spec
-    slice-aggregate-put-count-line
-    put-count-line-requires
-    put-verdict-requires
-    slice-aggregate-put-count-line-2
-    put-count-line-requires-2
-    slice-aggregate-put-row-line
-    put-row-line-requires
-    slice-aggregate-put-row-line-2
-    put-row-line-requires-2
-    same-length
-    returns)
+    (tie.spec (λ c. search needs) (λ c κs. search needs) put-verdict-requires (λ c. search needs)
+    put-count-line-requires-2 (λ c. search needs) put-row-line-requires (λ c. search needs) put-row-line-requires-2
+    (λ c. search needs) returns)

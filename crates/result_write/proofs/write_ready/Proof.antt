@@ -24,9 +24,6 @@ returns c =
 put-result-requires : tie.Need-put-result-requires
 put-result-requires c κs = let s = c .before .before .before .before in ready-done (s .args .r) (s .pre)
 
-same-length : tie.Need-same-length
-same-length c = search needs
-
 returns-2 : tie.Need-returns-2
 returns-2 c =
     let test = c .before .before .before .before in
@@ -38,5 +35,4 @@ returns-2 c =
     (all-written (showResult (args .r)) (args .out .now) fits wrote)
 
 pub write-ready-spec : {M : Type 1} → statement M
-write-ready-spec =
-    tie.close (tie.spec fits-requires returns put-result-requires same-length returns-2)
+write-ready-spec = tie.close (tie.spec fits-requires returns put-result-requires (λ c. search needs) returns-2)

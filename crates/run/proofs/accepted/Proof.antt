@@ -47,11 +47,5 @@ returns c =
 pub accepted-spec : {M : Type 1} → statement M
 accepted-spec =
     tie.close
-    (tie.spec
-    equations-requires
-    matrix-requires
-    start-box-requires
-    bounded-requires
-    run-steps-requires
-    result-of-requires
-    returns)
+    (tie.spec equations-requires matrix-requires start-box-requires bounded-requires run-steps-requires
+    result-of-requires returns)

@@ -39,7 +39,8 @@ abbrev μ-loop2 : tie.MeasureT-loop2
 abbrev Inv-loop : tie.InvT-loop
 Inv-loop c n allowance eqs x₀ done₀ x done =
     let q = equationAt eqs in
-    (done ≤ allowance) × (StepIn n q (entryAt c) (sideAt x) × (runOf n q (entryAt c) (allowance - done) done x ≡ runOf n q (entryAt c) allowance 0 x₀))
+    (done ≤ allowance) × (StepIn n q (entryAt c) (sideAt x)
+    × (runOf n q (entryAt c) (allowance - done) done x ≡ runOf n q (entryAt c) allowance 0 x₀))
 
 abbrev μ-loop : tie.MeasureT-loop
 μ-loop c n allowance eqs x₀ done₀ x done = allowance - done
@@ -104,12 +105,6 @@ array-set-from-s c =
     let p = c .before .before .before .before .before .before .before .loop .inv .1 .0 .box .places in
     omega arith
 
-add-i : tie.Need-add-i Inv-loop2 μ-loop2 Inv-loop μ-loop
-add-i c = omega arith
-
-loop2-less : tie.Need-loop2-less Inv-loop2 μ-loop2 Inv-loop μ-loop
-loop2-less c = omega arith
-
 loop2-again : tie.Need-loop2-again Inv-loop2 μ-loop2 Inv-loop μ-loop
 loop2-again c =
     let l = c .before .before .before .before in
@@ -153,9 +148,6 @@ imaged c =
 decide-requires : tie.Need-decide-requires Inv-loop2 μ-loop2 Inv-loop μ-loop
 decide-requires c κs = c .before .before .before .before .before .loop .inv .1 .0 .box .places
 
-add-steps : tie.Need-add-steps Inv-loop2 μ-loop2 Inv-loop μ-loop
-add-steps c = omega arith
-
 -- the whole run, at the decision of a turn
 decided : (c : tie.After-decide Inv-loop2 μ-loop2 Inv-loop μ-loop)
     → let s = c .before .before .before .before .before .before .before .args in
@@ -168,41 +160,17 @@ decided c =
     (imaged (c .before)) (c .decide .ensures)
     (l .loop .inv .1 .1)
 
-enum-told : tie.Need-enum-told Inv-loop2 μ-loop2 Inv-loop μ-loop
-enum-told c = search needs
-
-ended-requires : tie.Need-ended-requires Inv-loop2 μ-loop2 Inv-loop μ-loop
-ended-requires c κs = search needs
-
 returns : tie.Need-returns Inv-loop2 μ-loop2 Inv-loop μ-loop
-returns c = c .ended .ensures ∙ sym (rw (c .before .enum-told .given .1) at (decided (c .before .before .before .before)))
-
-enum-told-2 : tie.Need-enum-told-2 Inv-loop2 μ-loop2 Inv-loop μ-loop
-enum-told-2 c = search needs
-
-ended-requires-2 : tie.Need-ended-requires-2 Inv-loop2 μ-loop2 Inv-loop μ-loop
-ended-requires-2 c κs = search needs
+returns c =
+    c .ended .ensures ∙ sym (rw (c .before .enum-told .given .1) at (decided (c .before .before .before .before)))
 
 returns-2 : tie.Need-returns-2 Inv-loop2 μ-loop2 Inv-loop μ-loop
-returns-2 c = c .ended2 .ensures ∙ sym (rw (c .before .enum-told2 .given .1) at (decided (c .before .before .before .before)))
-
-enum-told-3 : tie.Need-enum-told-3 Inv-loop2 μ-loop2 Inv-loop μ-loop
-enum-told-3 c = search needs
-
-ended-requires-3 : tie.Need-ended-requires-3 Inv-loop2 μ-loop2 Inv-loop μ-loop
-ended-requires-3 c κs = search needs
+returns-2 c =
+    c .ended2 .ensures ∙ sym (rw (c .before .enum-told2 .given .1) at (decided (c .before .before .before .before)))
 
 returns-3 : tie.Need-returns-3 Inv-loop2 μ-loop2 Inv-loop μ-loop
-returns-3 c = c .ended3 .ensures ∙ sym (rw (c .before .enum-told3 .given .1) at (decided (c .before .before .before .before)))
-
-enum-told-4 : tie.Need-enum-told-4 Inv-loop2 μ-loop2 Inv-loop μ-loop
-enum-told-4 c = search needs
-
-add-done : tie.Need-add-done Inv-loop2 μ-loop2 Inv-loop μ-loop
-add-done c = omega arith
-
-loop-less : tie.Need-loop-less Inv-loop2 μ-loop2 Inv-loop μ-loop
-loop-less c = omega arith
+returns-3 c =
+    c .ended3 .ensures ∙ sym (rw (c .before .enum-told3 .given .1) at (decided (c .before .before .before .before)))
 
 loop-again : tie.Need-loop-again Inv-loop2 μ-loop2 Inv-loop μ-loop
 loop-again c =
@@ -210,46 +178,18 @@ loop-again c =
     let l = d .before .before .before .before .before .before .loop in
     let box = next-box (l .x) (l .inv .1 .0) (imaged (d .before)) (d .decide .ensures) (c .enum-told4 .given .1) in (
       omega arith,
-      (record { system = l .inv .1 .0 .system; inverse = l .inv .1 .0 .inverse; box = box }, sym (rw (c .enum-told4 .given .1) at (decided d))),
+      (
+        record { system = l .inv .1 .0 .system; inverse = l .inv .1 .0 .inverse; box = box },
+        sym (rw (c .enum-told4 .given .1) at (decided d)),
+      ),
     )
 
 pub run-steps-spec : {M : Type 1} → statement M
 run-steps-spec =
     tie.close
-    (tie.spec
-    Inv-loop2
-    μ-loop2
-    Inv-loop
-    μ-loop
-    loop-holds
-    middles-requires
-    loop2-holds
-    mul-q
-    array-copy-out-q
-    equation-over-requires
-    mul-f
-    array-set-from-f
-    slope-row-requires
-    mul-s
-    array-set-from-s
-    add-i
-    loop2-less
-    loop2-again
-    image-requires
-    decide-requires
-    add-steps
-    enum-told
-    ended-requires
-    returns
-    enum-told-2
-    ended-requires-2
-    returns-2
-    enum-told-3
-    ended-requires-3
-    returns-3
-    enum-told-4
-    add-done
-    loop-less
-    loop-again
-    ended-requires-4
-    returns-4)
+    (tie.spec Inv-loop2 μ-loop2 Inv-loop μ-loop loop-holds middles-requires loop2-holds mul-q array-copy-out-q
+    equation-over-requires mul-f array-set-from-f slope-row-requires mul-s array-set-from-s (λ c. omega arith)
+    (λ c. omega arith) loop2-again image-requires decide-requires (λ c. omega arith) (λ c. search needs)
+    (λ c κs. search needs) returns (λ c. search needs) (λ c κs. search needs) returns-2 (λ c. search needs)
+    (λ c κs. search needs) returns-3 (λ c. search needs) (λ c. omega arith) (λ c. omega arith) loop-again
+    ended-requires-4 returns-4)

@@ -6,9 +6,6 @@ use borrow.Author.Needs.{needs}
 use Rattle.scan.proofs.digits_from.Statement.{statement}
 use Rattle.scan.proofs.digits_from.Tie as tie
 
-is-at-requires : tie.Need-is-at-requires
-is-at-requires c κs = search needs
-
 add-result : tie.Need-add-result
 add-result c =
     let a = c .before .before .before .args in
@@ -22,4 +19,4 @@ returns-2 : tie.Need-returns-2
 returns-2 c = rw (sym (c .before .is-at .ensures) ∙ c .if1 .left)
 
 pub digits-from-spec : {M : Type 1} → statement M
-digits-from-spec = tie.close (tie.spec is-at-requires add-result returns returns-2)
+digits-from-spec = tie.close (tie.spec (λ c κs. search needs) add-result returns returns-2)

@@ -3,9 +3,10 @@ use borrow.Author.Needs.{needs}
 use Prim.Native.Nat.{ℕ, _<_, _≤_, _^_, _-_, _+_}
 use native.Mathlib.Omega.{arith}
 use native.Mathlib.Nat.{pow-le-pow-right}
-use mathlib.Core.Path.{_≡_}
+use mathlib.Core.Path.{_≡_, sym, _∙_}
 use lib.Dec.{lit<}
 use Rattle.digits.proofs.Cases.{either}
+use Rattle.scan.proofs.Tests.{no-not, yes-not, digit-yes, digit-no}
 use Rattle.scan.proofs.Magnitudes.{none-at, zero-at, Run, run-start, run-more, run-ends}
 use Rattle.scan.proofs.magnitude_at.Statement.{statement}
 use Rattle.scan.proofs.magnitude_at.Tie as tie
@@ -26,29 +27,14 @@ above b p n = either 48 b (λ q. q) (λ q. absurd (n (omega arith)))
 returns : tie.Need-returns Inv-loop μ-loop
 returns c = none-at _ _ (record { inside = search needs; other = λ p q r. omega arith })
 
-shared-slice-read-first : tie.Need-shared-slice-read-first Inv-loop μ-loop
-shared-slice-read-first c = search needs
-
 returns-2 : tie.Need-returns-2 Inv-loop μ-loop
 returns-2 c = none-at _ _ (record { inside = search needs; other = λ p q r. omega arith })
 
 returns-3 : tie.Need-returns-3 Inv-loop μ-loop
 returns-3 c = none-at _ _ (record { inside = search needs; other = λ p q r. omega arith })
 
-add-t12 : tie.Need-add-t12 Inv-loop μ-loop
-add-t12 c = search needs
-
 returns-4 : tie.Need-returns-4 Inv-loop μ-loop
 returns-4 c = zero-at _ _ (search needs) (c .if4 .taken)
-
-stop-of-requires : tie.Need-stop-of-requires Inv-loop μ-loop
-stop-of-requires c κs = search needs
-
-cast-m : tie.Need-cast-m Inv-loop μ-loop
-cast-m c = search needs
-
-add-i : tie.Need-add-i Inv-loop μ-loop
-add-i c = search needs
 
 loop-holds : tie.Need-loop-holds Inv-loop μ-loop
 loop-holds c =
@@ -58,16 +44,10 @@ loop-holds c =
           (c .before .before .if3 .left),
     )
 
-shared-slice-read-b : tie.Need-shared-slice-read-b Inv-loop μ-loop
-shared-slice-read-b c = search needs
-
 returns-5 : tie.Need-returns-5 Inv-loop μ-loop
 returns-5 c =
-    run-ends _ _ _ _ (c .before .before .before .loop .inv .1) (λ p q r t. omega arith)
-
-returns-6 : tie.Need-returns-6 Inv-loop μ-loop
-returns-6 c =
-    run-ends _ _ _ _ (c .before .before .before .before .loop .inv .1) (λ p q r t. omega arith)
+    run-ends _ _ _ _ (c .before .before .before .before .loop .inv .1)
+    (λ p q r t. digit-no _ (sym (c .before .is-digit .ensures) ∙ no-not _ (c .if5 .taken)) r t)
 
 mul-m : tie.Need-mul-m Inv-loop μ-loop
 mul-m c =
@@ -75,56 +55,38 @@ mul-m c =
     let h = few _ _ _ (l .inv .1 .begun) (omega arith) (l .inv .1 .small) in
     omega arith
 
+sub-m : tie.Need-sub-m Inv-loop μ-loop
+sub-m c =
+    let d = digit-yes _ (sym (c .before .is-digit .ensures) ∙ yes-not _ (c .if5 .left)) in
+    omega (arith, d .0)
+
 cast-m-2 : tie.Need-cast-m-2 Inv-loop μ-loop
-cast-m-2 c = search needs
+cast-m-2 c =
+    let d = digit-yes _ (sym (c .before .is-digit .ensures) ∙ yes-not _ (c .if5 .left)) in
+    omega (arith, d .0, d .1)
 
 add-m : tie.Need-add-m Inv-loop μ-loop
 add-m c =
     let l = c .before .before .before .before .loop in
+    let d = digit-yes _ (sym (c .before .is-digit .ensures) ∙ yes-not _ (c .if5 .left)) in
     let h = few _ _ _ (l .inv .1 .begun) (omega arith) (l .inv .1 .small) in
-    omega arith
-
-add-i-2 : tie.Need-add-i-2 Inv-loop μ-loop
-add-i-2 c = search needs
-
-loop-less : tie.Need-loop-less Inv-loop μ-loop
-loop-less c = search needs
+    omega (arith, d .0, d .1)
 
 loop-again : tie.Need-loop-again Inv-loop μ-loop
-loop-again c = (
-  omega arith,
-  run-more _ _ _ _ (c .before .before .before .before .loop .inv .1) (omega arith) (omega arith)
-      (c .before .if5 .left) (c .if6 .left),
-)
+loop-again c =
+    let d = digit-yes _ (sym (c .before .is-digit .ensures) ∙ yes-not _ (c .if5 .left)) in (
+      omega arith,
+      run-more _ _ _ _ (c .before .before .before .before .loop .inv .1) (omega arith) (omega arith) (d .0) (d .1),
+    )
 
-returns-7 : tie.Need-returns-7 Inv-loop μ-loop
-returns-7 c =
+returns-6 : tie.Need-returns-6 Inv-loop μ-loop
+returns-6 c =
     let far = c .before .before .stop-of .ensures .2 in
     run-ends _ _ _ _ (c .before .loop .inv .1) (λ p q r t. omega (arith, far (omega arith)))
 
 pub magnitude-at-spec : {M : Type 1} → statement M
 magnitude-at-spec =
     tie.close
-    (tie.spec
-    Inv-loop
-    μ-loop
-    returns
-    shared-slice-read-first
-    returns-2
-    returns-3
-    add-t12
-    returns-4
-    stop-of-requires
-    cast-m
-    add-i
-    loop-holds
-    shared-slice-read-b
-    returns-5
-    returns-6
-    mul-m
-    cast-m-2
-    add-m
-    add-i-2
-    loop-less
-    loop-again
-    returns-7)
+    (tie.spec Inv-loop μ-loop returns (λ c. search needs) returns-2 returns-3 (λ c. search needs) returns-4
+    (λ c κs. search needs) (λ c. search needs) (λ c. search needs) loop-holds (λ c. search needs) (λ c κs. search needs)
+    returns-5 mul-m sub-m cast-m-2 add-m (λ c. search needs) (λ c. search needs) loop-again returns-6)

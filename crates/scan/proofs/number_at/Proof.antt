@@ -7,9 +7,6 @@ use borrow.Author.Needs.{needs}
 use Rattle.scan.proofs.number_at.Statement.{statement}
 use Rattle.scan.proofs.number_at.Tie as tie
 
-digits-from-requires : tie.Need-digits-from-requires
-digits-from-requires c κs = search needs
-
 magnitude-at-requires : tie.Need-magnitude-at-requires
 magnitude-at-requires c κs =
     let a = c .before .before .args in
@@ -18,9 +15,6 @@ magnitude-at-requires c κs =
 returns : tie.Need-returns
 returns c =
     no-number _ _ _ _ _ (c .before .before .digits-from .ensures) (c .before .magnitude-at .ensures) (c .if1 .taken)
-
-plus-requires : tie.Need-plus-requires
-plus-requires c κs = search needs
 
 returns-2 : tie.Need-returns-2
 returns-2 c =
@@ -34,9 +28,6 @@ returns-3 c =
     no-minus-zero _ _ _ _ _ (c .before .before .before .before .digits-from .ensures)
     (c .before .before .before .magnitude-at .ensures) (c .before .if2 .left) (c .if3 .taken)
 
-minus-requires : tie.Need-minus-requires
-minus-requires c κs = search needs
-
 returns-4 : tie.Need-returns-4
 returns-4 c =
     let fits : SFits w64 (c .minus .result) = search needs in
@@ -48,12 +39,5 @@ returns-4 c =
 pub number-at-spec : {M : Type 1} → statement M
 number-at-spec =
     tie.close
-    (tie.spec
-    digits-from-requires
-    magnitude-at-requires
-    returns
-    plus-requires
-    returns-2
-    returns-3
-    minus-requires
-    returns-4)
+    (tie.spec (λ c κs. search needs) magnitude-at-requires returns (λ c κs. search needs) returns-2 returns-3
+    (λ c κs. search needs) returns-4)

@@ -33,9 +33,6 @@ mul-t c = let h = c .before .before .pre .1 .count in omega arith
 element-copy-out-t : tie.Need-element-copy-out-t Inv-loop2 μ-loop2 Inv-loop μ-loop
 element-copy-out-t c = let h = c .before .before .pre .1 .count in omega arith
 
-start-requires : tie.Need-start-requires Inv-loop2 μ-loop2 Inv-loop μ-loop
-start-requires c κs = search needs
-
 loop2-holds : tie.Need-loop2-holds Inv-loop2 μ-loop2 Inv-loop μ-loop
 loop2-holds c = (omega arith, c .start .ensures ∙ term-none _ _ _)
 
@@ -46,7 +43,8 @@ mul-factor : tie.Need-mul-factor Inv-loop2 μ-loop2 Inv-loop μ-loop
 mul-factor c = let p = c .before .before .before .before .before .before .before .pre .0 .places in omega arith
 
 array-copy-out-factor : tie.Need-array-copy-out-factor Inv-loop2 μ-loop2 Inv-loop μ-loop
-array-copy-out-factor c = let p = c .before .before .before .before .before .before .before .pre .0 .places in omega arith
+array-copy-out-factor c =
+    let p = c .before .before .before .before .before .before .before .pre .0 .places in omega arith
 
 factor-requires : tie.Need-factor-requires Inv-loop2 μ-loop2 Inv-loop μ-loop
 factor-requires c κs =
@@ -54,16 +52,12 @@ factor-requires c κs =
     let o = t .before .before .before .before in
     let p = o .before .before .pre in
     rw (t .before .loop2 .inv .1)
-    (term-factor (p .0) (p .1 .each (o .before .loop .i) (o .loop-test .taken)) (t .before .loop2 .k) (t .loop2-test .taken))
-
-add-k : tie.Need-add-k Inv-loop2 μ-loop2 Inv-loop μ-loop
-add-k c = omega arith
-
-loop2-less : tie.Need-loop2-less Inv-loop2 μ-loop2 Inv-loop μ-loop
-loop2-less c = omega arith
+    (term-factor (p .0) (p .1 .each (o .before .loop .i) (o .loop-test .taken)) (t .before .loop2 .k)
+    (t .loop2-test .taken))
 
 loop2-again : tie.Need-loop2-again Inv-loop2 μ-loop2 Inv-loop μ-loop
-loop2-again c = (omega arith, term-more _ _ _ _ (c .factor .ensures) refl (c .before .before .before .before .loop2 .inv .1))
+loop2-again c =
+    (omega arith, term-more _ _ _ _ (c .factor .ensures) refl (c .before .before .before .before .loop2 .inv .1))
 
 add-requires : tie.Need-add-requires Inv-loop2 μ-loop2 Inv-loop μ-loop
 add-requires c κs =
@@ -72,12 +66,6 @@ add-requires c κs =
     let p = o .before .before .pre in
     rw (o .before .loop .inv .1, term-done _ _ _ (u .loop2 .inv .0) (c .loop2-test .left) (u .loop2 .inv .1))
     (equation-fits (p .0) (p .1) (o .before .loop .i) (o .loop-test .taken))
-
-add-i : tie.Need-add-i Inv-loop2 μ-loop2 Inv-loop μ-loop
-add-i c = omega arith
-
-loop-less : tie.Need-loop-less Inv-loop2 μ-loop2 Inv-loop μ-loop
-loop-less c = omega arith
 
 loop-again : tie.Need-loop-again Inv-loop2 μ-loop2 Inv-loop μ-loop
 loop-again c =
@@ -92,25 +80,6 @@ returns c = sumI-done _ (c .before .loop .inv .0) (c .loop-test .left) (c .befor
 pub equation-over-spec : {M : Type 1} → statement M
 equation-over-spec =
     tie.close
-    (tie.spec
-    Inv-loop2
-    μ-loop2
-    Inv-loop
-    μ-loop
-    loop-holds
-    mul-t
-    element-copy-out-t
-    start-requires
-    loop2-holds
-    element-copy-out-e
-    mul-factor
-    array-copy-out-factor
-    factor-requires
-    add-k
-    loop2-less
-    loop2-again
-    add-requires
-    add-i
-    loop-less
-    loop-again
-    returns)
+    (tie.spec Inv-loop2 μ-loop2 Inv-loop μ-loop loop-holds mul-t element-copy-out-t (λ c κs. search needs) loop2-holds
+    element-copy-out-e mul-factor array-copy-out-factor factor-requires (λ c. omega arith) (λ c. omega arith)
+    loop2-again add-requires (λ c. omega arith) (λ c. omega arith) loop-again returns)

@@ -22,20 +22,11 @@ loop-holds c = (omega arith, tab-none zeroEquation nMax _)
 equation-of-requires : tie.Need-equation-of-requires Inv-loop μ-loop
 equation-of-requires c κs = (c .before .before .pre, c .loop-test .taken)
 
-mul-eqs : tie.Need-mul-eqs Inv-loop μ-loop
-mul-eqs c = omega arith
-
-array-set-from-eqs : tie.Need-array-set-from-eqs Inv-loop μ-loop
-array-set-from-eqs c = omega arith
-
-add-i : tie.Need-add-i Inv-loop μ-loop
-add-i c = omega arith
-
-loop-less : tie.Need-loop-less Inv-loop μ-loop
-loop-less c = omega arith
-
 loop-again : tie.Need-loop-again Inv-loop μ-loop
-loop-again c = (omega arith, tab-more zeroEquation nMax _ _ (omega arith) (c .before .before .loop .inv .1) (c .equation-of .ensures))
+loop-again c = (
+  omega arith,
+  tab-more zeroEquation nMax _ _ (omega arith) (c .before .before .loop .inv .1) (c .equation-of .ensures),
+)
 
 returns : tie.Need-returns Inv-loop μ-loop
 returns c = tab-done zeroEquation nMax _ (c .before .loop .inv .0) (c .loop-test .left) (c .before .loop .inv .1)
@@ -43,14 +34,5 @@ returns c = tab-done zeroEquation nMax _ (c .before .loop .inv .0) (c .loop-test
 pub equations-spec : {M : Type 1} → statement M
 equations-spec =
     tie.close
-    (tie.spec
-    Inv-loop
-    μ-loop
-    loop-holds
-    equation-of-requires
-    mul-eqs
-    array-set-from-eqs
-    add-i
-    loop-less
-    loop-again
-    returns)
+    (tie.spec Inv-loop μ-loop loop-holds equation-of-requires (λ c. omega arith) (λ c. omega arith) (λ c. omega arith)
+    (λ c. omega arith) loop-again returns)

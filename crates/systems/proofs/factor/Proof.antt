@@ -19,13 +19,8 @@ unfolding factorI
 loop-holds c = (omega arith, carry-none _ _)
 
 times-requires : tie.Need-times-requires Inv-loop μ-loop
-times-requires c κs = rw (c .before .loop .inv .1) (factor-fits (c .before .before .pre) (c .before .loop .i) (omega arith))
-
-add-i : tie.Need-add-i Inv-loop μ-loop
-add-i c = omega arith
-
-loop-less : tie.Need-loop-less Inv-loop μ-loop
-loop-less c = omega arith
+times-requires c κs =
+    rw (c .before .loop .inv .1) (factor-fits (c .before .before .pre) (c .before .loop .i) (omega arith))
 
 loop-again : tie.Need-loop-again Inv-loop μ-loop
 unfolding factorI
@@ -36,4 +31,6 @@ unfolding factorI
 returns c = carry-done _ _ (c .before .loop .inv .0) (c .loop-test .left) (c .before .loop .inv .1)
 
 pub factor-spec : {M : Type 1} → statement M
-factor-spec = tie.close (tie.spec Inv-loop μ-loop loop-holds times-requires add-i loop-less loop-again returns)
+factor-spec =
+    tie.close
+    (tie.spec Inv-loop μ-loop loop-holds times-requires (λ c. omega arith) (λ c. omega arith) loop-again returns)

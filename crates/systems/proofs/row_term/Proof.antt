@@ -12,12 +12,6 @@ use Rattle.systems.proofs.Exponents.{row-entry, row-last, same-term}
 use Rattle.systems.proofs.row_term.Statement.{statement}
 use Rattle.systems.proofs.row_term.Tie as tie
 
-mul-a : tie.Need-mul-a
-mul-a c = search needs
-
-array-copy-out-a : tie.Need-array-copy-out-a
-array-copy-out-a c = search needs
-
 returns : tie.Need-returns
 returns c =
     let s = c .before .before .args in
@@ -31,7 +25,8 @@ returns-2 : tie.Need-returns-2
 returns-2 c =
     let s = c .before .args in
     let f : SFits w64 (negℤ (s .b)) = fits (within-neg (c .before .pre .1)) tt in
-    same-term (simp (toZ-ofZ, c .before .fits .b, +ℤ-idl, f) (sym (row-last _ (numberAt (s .t1)) (s .b) _ (c .if1 .left)))) refl
+    same-term (simp (toZ-ofZ, c .before .fits .b, +ℤ-idl, f)
+    (sym (row-last _ (numberAt (s .t1)) (s .b) _ (c .if1 .left)))) refl
 
 pub row-term-spec : {M : Type 1} → statement M
-row-term-spec = tie.close (tie.spec mul-a array-copy-out-a returns sub-t13 returns-2)
+row-term-spec = tie.close (tie.spec (λ c. search needs) (λ c. search needs) returns sub-t13 returns-2)

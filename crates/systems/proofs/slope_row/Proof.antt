@@ -1,5 +1,5 @@
--- slope_row: after i turns the slopes of the first i terms; after j turns within, those below j of term i too; after k turns within that, the lowered
--- term over the first k unknowns.
+-- slope_row: after i turns the slopes of the first i terms; after j turns within, those below j of term i too; after k
+-- turns within that, the lowered term over the first k unknowns.
 use mathlib.Core.Path.{_≡_, sym, ap, _∙_}
 use mathlib.Core.Logic.{⊎-elim}
 use Prim.Native.Nat.{_≤_, _-_}
@@ -13,7 +13,8 @@ use Rattle.systems.specs.Terms.{coefOf, expsOf, termOver, lowered, termS
 use Rattle.systems.proofs.Cases.{term-none, term-more, term-done, slope-none, slope-some}
 use Rattle.systems.proofs.Exponents.{lowered-at}
 use Rattle.systems.proofs.Ranges.{lowered-factor, slope-fits, slope-sum-fits}
-use Rattle.systems.proofs.Rows.{totals, partly, row-none, row-done, row-start, row-end, row-read, row-put, row-keep}
+use Rattle.systems.proofs.Rows.{totals, partly, row-none, row-done, row-start}
+use Rattle.systems.proofs.Rows.{row-end, row-read, row-put, row-keep}
 use Rattle.systems.proofs.slope_row.Statement.{statement}
 use Rattle.systems.proofs.slope_row.Tie as tie
 
@@ -24,13 +25,15 @@ abbrev μ-loop3 : tie.MeasureT-loop3
 μ-loop3 n q x s count i t j e a₀ k₀ a k = n - k
 
 abbrev Inv-loop2 : tie.InvT-loop2
-Inv-loop2 n q x s₀ count i t j₀ s j = (j ≤ n) × (s ≡ partly n (λ m t. termSlope n (coefOf q t) (expsOf q t) m (sideAt x)) i j)
+Inv-loop2 n q x s₀ count i t j₀ s j =
+    (j ≤ n) × (s ≡ partly n (λ m t. termSlope n (coefOf q t) (expsOf q t) m (sideAt x)) i j)
 
 abbrev μ-loop2 : tie.MeasureT-loop2
 μ-loop2 n q x s₀ count i t j₀ s j = n - j
 
 abbrev Inv-loop : tie.InvT-loop
-Inv-loop n q x s₀ count i₀ s i = (i ≤ count) × (s ≡ totals n (λ m t. termSlope n (coefOf q t) (expsOf q t) m (sideAt x)) i)
+Inv-loop n q x s₀ count i₀ s i =
+    (i ≤ count) × (s ≡ totals n (λ m t. termSlope n (coefOf q t) (expsOf q t) m (sideAt x)) i)
 
 abbrev μ-loop : tie.MeasureT-loop
 μ-loop n q x s₀ count i₀ s i = count - i
@@ -52,22 +55,25 @@ element-copy-out-e :
     tie.Need-element-copy-out-e Inv-loop3 μ-loop3 Inv-loop2 μ-loop2 Inv-loop μ-loop
 element-copy-out-e c = let p = c .before .before .before .before .before .pre .0 .places in omega arith
 
-start-requires : tie.Need-start-requires Inv-loop3 μ-loop3 Inv-loop2 μ-loop2 Inv-loop μ-loop
-start-requires c κs = search needs
-
 loop3-holds : tie.Need-loop3-holds Inv-loop3 μ-loop3 Inv-loop2 μ-loop2 Inv-loop μ-loop
 loop3-holds c = (omega arith, c .start .ensures ∙ term-none _ _ _)
 
 element-copy-out-d :
     tie.Need-element-copy-out-d Inv-loop3 μ-loop3 Inv-loop2 μ-loop2 Inv-loop μ-loop
-element-copy-out-d c = let p = c .before .before .before .before .before .before .before .before .before .before .pre .0 .places in omega arith
+element-copy-out-d c =
+    let p = c .before .before .before .before .before .before .before .before .before .before .pre .0 .places in
+    omega arith
 
 mul-factor : tie.Need-mul-factor Inv-loop3 μ-loop3 Inv-loop2 μ-loop2 Inv-loop μ-loop
-mul-factor c = let p = c .before .before .before .before .before .before .before .before .before .before .before .pre .0 .places in omega arith
+mul-factor c =
+    let p = c .before .before .before .before .before .before .before .before .before .before .before .pre .0 .places in
+    omega arith
 
 array-copy-out-factor :
     tie.Need-array-copy-out-factor Inv-loop3 μ-loop3 Inv-loop2 μ-loop2 Inv-loop μ-loop
-array-copy-out-factor c = let p = c .before .before .before .before .before .before .before .before .before .before .before .pre .0 .places in omega arith
+array-copy-out-factor c =
+    let p = c .before .before .before .before .before .before .before .before .before .before .before .pre .0 .places in
+    omega arith
 
 less-requires : tie.Need-less-requires Inv-loop3 μ-loop3 Inv-loop2 μ-loop2 Inv-loop μ-loop
 less-requires c κs = λ h. rw h (pos-of-ne-zero (c .before .before .before .before .before .if1 .taken))
@@ -81,23 +87,26 @@ factor-requires c κs =
     let p = o .before .before .pre in
     let term = p .1 .each (o .before .loop .i) (o .loop-test .taken) in
     let part = pos-of-ne-zero (d .if1 .taken) in
-    lowered-factor (p .0) term _ (j .loop2-test .taken) part (t .before .loop3 .k) (t .loop3-test .taken) (t .before .loop3 .inv .1) (c .less .ensures)
-
-add-k : tie.Need-add-k Inv-loop3 μ-loop3 Inv-loop2 μ-loop2 Inv-loop μ-loop
-add-k c = omega arith
-
-loop3-less : tie.Need-loop3-less Inv-loop3 μ-loop3 Inv-loop2 μ-loop2 Inv-loop μ-loop
-loop3-less c = omega arith
+    lowered-factor (p .0) term _ (j .loop2-test .taken) part (t .before .loop3 .k) (t .loop3-test .taken)
+    (t .before .loop3 .inv .1) (c .less .ensures)
 
 loop3-again : tie.Need-loop3-again Inv-loop3 μ-loop3 Inv-loop2 μ-loop2 Inv-loop μ-loop
-loop3-again c = (omega arith, term-more _ _ _ _ (c .factor .ensures) (c .before .less .ensures ∙ lowered-at _ _ _) (c .before .before .before .before .before .loop3 .inv .1))
+loop3-again c = (
+  omega arith,
+  term-more _ _ _ _ (c .factor .ensures) (c .before .less .ensures ∙ lowered-at _ _ _)
+      (c .before .before .before .before .before .loop3 .inv .1),
+)
 
 mul-add : tie.Need-mul-add Inv-loop3 μ-loop3 Inv-loop2 μ-loop2 Inv-loop μ-loop
-mul-add c = let p = c .before .before .before .before .before .before .before .before .before .before .pre .0 .places in omega arith
+mul-add c =
+    let p = c .before .before .before .before .before .before .before .before .before .before .pre .0 .places in
+    omega arith
 
 array-copy-out-add :
     tie.Need-array-copy-out-add Inv-loop3 μ-loop3 Inv-loop2 μ-loop2 Inv-loop μ-loop
-array-copy-out-add c = let p = c .before .before .before .before .before .before .before .before .before .before .pre .0 .places in omega arith
+array-copy-out-add c =
+    let p = c .before .before .before .before .before .before .before .before .before .before .pre .0 .places in
+    omega arith
 
 scaled-requires : tie.Need-scaled-requires Inv-loop3 μ-loop3 Inv-loop2 μ-loop2 Inv-loop μ-loop
 scaled-requires c κs =
@@ -123,16 +132,16 @@ add-requires c κs =
     (slope-sum-fits (p .0) (p .1) _ (j .loop2-test .taken) (o .before .loop .i) (o .loop-test .taken))
 
 mul-s : tie.Need-mul-s Inv-loop3 μ-loop3 Inv-loop2 μ-loop2 Inv-loop μ-loop
-mul-s c = let p = c .before .before .before .before .before .before .before .before .before .before .before .before .before .pre .0 .places in omega arith
+mul-s c =
+    let row = c .before .before .before .before .before .before .before in
+    let p = row .before .before .before .before .before .before .pre .0 .places in
+    omega arith
 
 array-set-from-s : tie.Need-array-set-from-s Inv-loop3 μ-loop3 Inv-loop2 μ-loop2 Inv-loop μ-loop
-array-set-from-s c = let p = c .before .before .before .before .before .before .before .before .before .before .before .before .before .pre .0 .places in omega arith
-
-add-j : tie.Need-add-j Inv-loop3 μ-loop3 Inv-loop2 μ-loop2 Inv-loop μ-loop
-add-j c = omega arith
-
-loop2-less : tie.Need-loop2-less Inv-loop3 μ-loop3 Inv-loop2 μ-loop2 Inv-loop μ-loop
-loop2-less c = omega arith
+array-set-from-s c =
+    let row = c .before .before .before .before .before .before .before in
+    let p = row .before .before .before .before .before .before .pre .0 .places in
+    omega arith
 
 loop2-again : tie.Need-loop2-again Inv-loop3 μ-loop3 Inv-loop2 μ-loop2 Inv-loop μ-loop
 loop2-again c =
@@ -150,12 +159,6 @@ loop2-again c =
           (c .if1 .came),
     )
 
-add-i : tie.Need-add-i Inv-loop3 μ-loop3 Inv-loop2 μ-loop2 Inv-loop μ-loop
-add-i c = omega arith
-
-loop-less : tie.Need-loop-less Inv-loop3 μ-loop3 Inv-loop2 μ-loop2 Inv-loop μ-loop
-loop-less c = omega arith
-
 loop-again : tie.Need-loop-again Inv-loop3 μ-loop3 Inv-loop2 μ-loop2 Inv-loop μ-loop
 loop-again c = (omega arith, row-end _ _ _ _ (c .loop2-test .left) (c .before .loop2 .inv .1))
 
@@ -166,38 +169,8 @@ returns c = row-done _ _ (c .before .loop .inv .0) (c .loop-test .left) (c .befo
 pub slope-row-spec : {M : Type 1} → statement M
 slope-row-spec =
     tie.close
-    (tie.spec
-    Inv-loop3
-    μ-loop3
-    Inv-loop2
-    μ-loop2
-    Inv-loop
-    μ-loop
-    loop-holds
-    mul-t
-    element-copy-out-t
-    loop2-holds
-    element-copy-out-e
-    start-requires
-    loop3-holds
-    element-copy-out-d
-    mul-factor
-    array-copy-out-factor
-    less-requires
-    factor-requires
-    add-k
-    loop3-less
-    loop3-again
-    mul-add
-    array-copy-out-add
-    scaled-requires
-    add-requires
-    mul-s
-    array-set-from-s
-    add-j
-    loop2-less
-    loop2-again
-    add-i
-    loop-less
-    loop-again
-    returns)
+    (tie.spec Inv-loop3 μ-loop3 Inv-loop2 μ-loop2 Inv-loop μ-loop loop-holds mul-t element-copy-out-t loop2-holds
+    element-copy-out-e (λ c κs. search needs) loop3-holds element-copy-out-d mul-factor array-copy-out-factor
+    less-requires factor-requires (λ c. omega arith) (λ c. omega arith) loop3-again mul-add array-copy-out-add
+    scaled-requires add-requires mul-s array-set-from-s (λ c. omega arith) (λ c. omega arith) loop2-again
+    (λ c. omega arith) (λ c. omega arith) loop-again returns)

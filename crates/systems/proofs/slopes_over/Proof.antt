@@ -14,7 +14,8 @@ use Rattle.systems.proofs.slopes_over.Statement.{statement}
 use Rattle.systems.proofs.slopes_over.Tie as tie
 
 abbrev Inv-loop : tie.InvT-loop
-Inv-loop x n eqs s₀ i₀ s i = (i ≤ n) × (s ≡ tab nMax i (replicate nMax zeroI) (λ k. slopeRow n (equationAt eqs k) (sideAt x)))
+Inv-loop x n eqs s₀ i₀ s i =
+    (i ≤ n) × (s ≡ tab nMax i (replicate nMax zeroI) (λ k. slopeRow n (equationAt eqs k) (sideAt x)))
 
 abbrev μ-loop : tie.MeasureT-loop
 μ-loop x n eqs s₀ i₀ s i = n - i
@@ -39,34 +40,21 @@ mul-s c = let p = c .before .before .before .before .pre .0 .places in omega ari
 array-set-from-s : tie.Need-array-set-from-s Inv-loop μ-loop
 array-set-from-s c = let p = c .before .before .before .before .pre .0 .places in omega arith
 
-add-i : tie.Need-add-i Inv-loop μ-loop
-add-i c = omega arith
-
-loop-less : tie.Need-loop-less Inv-loop μ-loop
-loop-less c = omega arith
-
 loop-again : tie.Need-loop-again Inv-loop μ-loop
 loop-again c =
-    let p = c .before .before .before .before .pre .0 .places in
-    (omega arith, tab-more (replicate nMax zeroI) nMax _ _ (omega arith) (c .before .before .before .loop .inv .1) (c .slope-row .ensures))
+    let p = c .before .before .before .before .pre .0 .places in (
+      omega arith,
+      tab-more (replicate nMax zeroI) nMax _ _ (omega arith) (c .before .before .before .loop .inv .1)
+          (c .slope-row .ensures),
+    )
 
 returns : tie.Need-returns Inv-loop μ-loop
 unfolding slopesOver
-returns c = tab-done (replicate nMax zeroI) nMax _ (c .before .loop .inv .0) (c .loop-test .left) (c .before .loop .inv .1)
+returns c =
+    tab-done (replicate nMax zeroI) nMax _ (c .before .loop .inv .0) (c .loop-test .left) (c .before .loop .inv .1)
 
 pub slopes-over-spec : {M : Type 1} → statement M
 slopes-over-spec =
     tie.close
-    (tie.spec
-    Inv-loop
-    μ-loop
-    loop-holds
-    mul-q
-    array-copy-out-q
-    slope-row-requires
-    mul-s
-    array-set-from-s
-    add-i
-    loop-less
-    loop-again
-    returns)
+    (tie.spec Inv-loop μ-loop loop-holds mul-q array-copy-out-q slope-row-requires mul-s array-set-from-s
+    (λ c. omega arith) (λ c. omega arith) loop-again returns)

@@ -19,18 +19,6 @@ abbrev μ-loop : tie.MeasureT-loop
 loop-holds : tie.Need-loop-holds Inv-loop μ-loop
 loop-holds c = (omega arith, tab-none 0 nMax _)
 
-unit-requires : tie.Need-unit-requires Inv-loop μ-loop
-unit-requires c κs = search needs
-
-array-write-e : tie.Need-array-write-e Inv-loop μ-loop
-array-write-e c = omega arith
-
-add-k : tie.Need-add-k Inv-loop μ-loop
-add-k c = omega arith
-
-loop-less : tie.Need-loop-less Inv-loop μ-loop
-loop-less c = omega arith
-
 loop-again : tie.Need-loop-again Inv-loop μ-loop
 loop-again c = (omega arith, tab-more 0 nMax _ _ (omega arith) (c .before .before .loop .inv .1) (c .unit .ensures))
 
@@ -40,13 +28,5 @@ returns c = tab-done 0 nMax _ (c .before .loop .inv .0) (c .loop-test .left) (c 
 pub unit-exponents-spec : {M : Type 1} → statement M
 unit-exponents-spec =
     tie.close
-    (tie.spec
-    Inv-loop
-    μ-loop
-    loop-holds
-    unit-requires
-    array-write-e
-    add-k
-    loop-less
-    loop-again
-    returns)
+    (tie.spec Inv-loop μ-loop loop-holds (λ c κs. search needs) (λ c. omega arith) (λ c. omega arith) (λ c. omega arith)
+    loop-again returns)

@@ -38,16 +38,12 @@ mul-f c = let p = c .before .before .before .before .pre .0 .places in omega ari
 array-set-from-f : tie.Need-array-set-from-f Inv-loop μ-loop
 array-set-from-f c = let p = c .before .before .before .before .pre .0 .places in omega arith
 
-add-i : tie.Need-add-i Inv-loop μ-loop
-add-i c = omega arith
-
-loop-less : tie.Need-loop-less Inv-loop μ-loop
-loop-less c = omega arith
-
 loop-again : tie.Need-loop-again Inv-loop μ-loop
 loop-again c =
-    let p = c .before .before .before .before .pre .0 .places in
-    (omega arith, tab-more zeroI nMax _ _ (omega arith) (c .before .before .before .loop .inv .1) (c .equation-over .ensures))
+    let p = c .before .before .before .before .pre .0 .places in (
+      omega arith,
+      tab-more zeroI nMax _ _ (omega arith) (c .before .before .before .loop .inv .1) (c .equation-over .ensures),
+    )
 
 returns : tie.Need-returns Inv-loop μ-loop
 unfolding valuesOver
@@ -56,16 +52,5 @@ returns c = tab-done zeroI nMax _ (c .before .loop .inv .0) (c .loop-test .left)
 pub values-over-spec : {M : Type 1} → statement M
 values-over-spec =
     tie.close
-    (tie.spec
-    Inv-loop
-    μ-loop
-    loop-holds
-    mul-q
-    array-copy-out-q
-    equation-over-requires
-    mul-f
-    array-set-from-f
-    add-i
-    loop-less
-    loop-again
-    returns)
+    (tie.spec Inv-loop μ-loop loop-holds mul-q array-copy-out-q equation-over-requires mul-f array-set-from-f
+    (λ c. omega arith) (λ c. omega arith) loop-again returns)

@@ -21,7 +21,8 @@ unfolding inCount
 below most (pos n) t = absurd (omega (arith, ltb-true n 0 t))
 below most (negsuc n) t = refl
 
-above : (most : ℕ) (v : ℤ) → ltZ v (pos 0) ≡ false → inCount most v ≡ cond (ltb most (natAbs v)) Count.Out (Count.Is (natAbs v))
+above : (most : ℕ) (v : ℤ)
+    → ltZ v (pos 0) ≡ false → inCount most v ≡ cond (ltb most (natAbs v)) Count.Out (Count.Is (natAbs v))
 unfolding inCount
 above most (pos n) t = refl
 above most (negsuc n) t = absurd (true≢false t)
@@ -45,14 +46,21 @@ returns-2 c =
     let v = c .before .before .args .v in
     let most = c .before .before .args .most in
     let f = c .before .before .fits .v in
-    rw (above most v (rw (toZ-ofZ f) at (c .before .if1 .left)), lt-ltb most (natAbs v) (rw (toZ-ofZ f) at (c .if2 .taken)))
+    rw (
+      above most v (rw (toZ-ofZ f) at (c .before .if1 .left)),
+      lt-ltb most (natAbs v) (rw (toZ-ofZ f) at (c .if2 .taken)),
+    )
 
 returns-3 : tie.Need-returns-3
 returns-3 c =
     let v = c .before .before .args .v in
     let most = c .before .before .args .most in
     let f = c .before .before .fits .v in
-    rw (above most v (rw (toZ-ofZ f) at (c .before .if1 .left)), toZ-ofZ f, le-ltb most (natAbs v) (rw (toZ-ofZ f) at (c .if2 .left)))
+    rw (
+      above most v (rw (toZ-ofZ f) at (c .before .if1 .left)),
+      toZ-ofZ f,
+      le-ltb most (natAbs v) (rw (toZ-ofZ f) at (c .if2 .left)),
+    )
 
 pub in-count-spec : {M : Type 1} → statement M
 in-count-spec = tie.close (tie.spec returns cast-m returns-2 returns-3)

@@ -34,19 +34,10 @@ one-more s sep a i v h n =
 loop-holds : tie.Need-loop-holds Inv-loop μ-loop
 loop-holds c = record { after = omega arith; inside = omega (arith, c .pre); none = λ k p q e. omega arith }
 
-shared-slice-read-if1 : tie.Need-shared-slice-read-if1 Inv-loop μ-loop
-shared-slice-read-if1 c = search needs
-
 returns : tie.Need-returns Inv-loop μ-loop
 returns c =
     let v = c .before .before .before .loop .inv in
     record { after = v .after; inside = v .inside; ends = λ h. c .if1 .taken; none = v .none }
-
-add-i : tie.Need-add-i Inv-loop μ-loop
-add-i c = search needs
-
-loop-less : tie.Need-loop-less Inv-loop μ-loop
-loop-less c = search needs
 
 loop-again : tie.Need-loop-again Inv-loop μ-loop
 loop-again c =
@@ -57,18 +48,15 @@ loop-again c =
 returns-2 : tie.Need-returns-2 Inv-loop μ-loop
 returns-2 c =
     let v = c .before .loop .inv in
-    record { after = v .after; inside = v .inside; ends = λ h. absurd (omega (arith, c .loop-test .left, h)); none = v .none }
+    record {
+      after = v .after;
+      inside = v .inside;
+      ends = λ h. absurd (omega (arith, c .loop-test .left, h));
+      none = v .none;
+    }
 
 pub piece-end-spec : {M : Type 1} → statement M
 piece-end-spec =
     tie.close
-    (tie.spec
-    Inv-loop
-    μ-loop
-    loop-holds
-    shared-slice-read-if1
-    returns
-    add-i
-    loop-less
-    loop-again
+    (tie.spec Inv-loop μ-loop loop-holds (λ c. search needs) returns (λ c. search needs) (λ c. search needs) loop-again
     returns-2)

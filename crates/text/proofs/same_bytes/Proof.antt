@@ -5,9 +5,6 @@ use Rattle.text.specs.Keys.{sameBytes}
 use Rattle.text.proofs.same_bytes.Statement.{statement}
 use Rattle.text.proofs.same_bytes.Tie as tie
 
-starts-requires : tie.Need-starts-requires
-starts-requires c κs = search needs
-
 returns : tie.Need-returns
 unfolding sameBytes
 returns c = rw (eq-eqb _ _ (c .before .if1 .taken)) (c .starts .ensures)
@@ -17,4 +14,4 @@ unfolding sameBytes
 returns-2 c = rw (ne-eqb _ _ (c .if1 .left))
 
 pub same-bytes-spec : {M : Type 1} → statement M
-same-bytes-spec = tie.close (tie.spec starts-requires returns returns-2)
+same-bytes-spec = tie.close (tie.spec (λ c κs. search needs) returns returns-2)

@@ -12,12 +12,6 @@ use Rattle.units.proofs.Both.{both-written, both-length}
 use Rattle.units.proofs.put_both.Statement.{statement}
 use Rattle.units.proofs.put_both.Tie as tie
 
-slice-aggregate-put-unknowns : tie.Need-slice-aggregate-put-unknowns
-slice-aggregate-put-unknowns c = search needs
-
-put-unknowns-requires : tie.Need-put-unknowns-requires
-put-unknowns-requires c κs = search needs
-
 returns : tie.Need-returns
 returns c =
     let start = c .before .before .before .before .before .before .before .before in
@@ -25,15 +19,6 @@ returns c =
     let room = c .before .before .put-unknowns .ensures .next in
     no-room (unitsOf r) (start .args .out .now)
     (omega (arith, c .if1 .taken, room, both-length r, ap length (start .pre .text)))
-
-put-bytes-requires : tie.Need-put-bytes-requires
-put-bytes-requires c κs = search needs
-
-put-unknowns-requires-2 : tie.Need-put-unknowns-requires-2
-put-unknowns-requires-2 c κs = search needs
-
-same-length : tie.Need-same-length
-same-length c = search needs
 
 returns-2 : tie.Need-returns-2
 returns-2 c =
@@ -51,11 +36,5 @@ returns-2 c =
 pub put-both-spec : {M : Type 1} → statement M
 put-both-spec =
     tie.close
-    (tie.spec
-    slice-aggregate-put-unknowns
-    put-unknowns-requires
-    returns
-    put-bytes-requires
-    put-unknowns-requires-2
-    same-length
-    returns-2)
+    (tie.spec (λ c. search needs) (λ c κs. search needs) returns (λ c κs. search needs) (λ c κs. search needs)
+    (λ c. search needs) returns-2)

@@ -6,24 +6,9 @@ use Rattle.units.specs.Show.{unitsText}
 use Rattle.units.proofs.show.Statement.{statement}
 use Rattle.units.proofs.show.Tie as tie
 
-read-job-requires : tie.Need-read-job-requires
-read-job-requires c κs = search needs
-
-enum-known-status : tie.Need-enum-known-status
-enum-known-status c = search needs
-
-enum-told : tie.Need-enum-told
-enum-told c = search needs
-
-write-run-requires : tie.Need-write-run-requires
-write-run-requires c κs = search needs
-
 returns : tie.Need-returns
 unfolding solveStatus unitsText
 returns c = rw (← c .before .before .before .read-job .ensures) (read-bad _ (c .before .status .given .1))
-
-same-length : tie.Need-same-length
-same-length c = search needs
 
 returns-2 : tie.Need-returns-2
 unfolding solveStatus unitsText
@@ -35,11 +20,5 @@ returns-2 c =
 pub show-spec : {M : Type 1} → statement M
 show-spec =
     tie.close
-    (tie.spec
-    read-job-requires
-    enum-known-status
-    enum-told
-    write-run-requires
-    returns
-    same-length
-    returns-2)
+    (tie.spec (λ c κs. search needs) (λ c. search needs) (λ c. search needs) (λ c κs. search needs) returns
+    (λ c. search needs) returns-2)

@@ -8,12 +8,6 @@ use Rattle.units.proofs.Both.{result-whole, checked-short}
 use Rattle.units.proofs.write_checked.Statement.{statement}
 use Rattle.units.proofs.write_checked.Tie as tie
 
-slice-aggregate-write-result : tie.Need-slice-aggregate-write-result
-slice-aggregate-write-result c = search needs
-
-write-result-requires : tie.Need-write-result-requires
-write-result-requires c κs = search needs
-
 array-share-prefix-text : tie.Need-array-share-prefix-text
 array-share-prefix-text c =
     let start = c .before .before .before .before in
@@ -37,20 +31,8 @@ put-both-requires c κs =
       ready = ready-done r (start .pre);
     }
 
-same-length : tie.Need-same-length
-same-length c = search needs
-
-returns : tie.Need-returns
-returns c = search needs
-
 pub write-checked-spec : {M : Type 1} → statement M
 write-checked-spec =
     tie.close
-    (tie.spec
-    slice-aggregate-write-result
-    write-result-requires
-    array-share-prefix-text
-    slice-aggregate-put-both
-    put-both-requires
-    same-length
-    returns)
+    (tie.spec (λ c. search needs) (λ c κs. search needs) array-share-prefix-text slice-aggregate-put-both
+    put-both-requires (λ c. search needs) (λ c. search needs))

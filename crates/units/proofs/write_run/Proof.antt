@@ -6,24 +6,9 @@ use Rattle.units.specs.Show.{unitsRun}
 use Rattle.units.proofs.write_run.Statement.{statement}
 use Rattle.units.proofs.write_run.Tie as tie
 
-run-requires : tie.Need-run-requires
-run-requires c κs = search needs
-
-enum-known-status : tie.Need-enum-known-status
-enum-known-status c = search needs
-
-enum-told : tie.Need-enum-told
-enum-told c = search needs
-
-write-units-requires : tie.Need-write-units-requires
-write-units-requires c κs = search needs
-
 returns : tie.Need-returns
 unfolding runStatus unitsRun
 returns c = rw (← c .before .before .before .run .ensures) (read-bad _ (c .before .status .given .1))
-
-same-length : tie.Need-same-length
-same-length c = search needs
 
 returns-2 : tie.Need-returns-2
 unfolding runStatus unitsRun
@@ -35,11 +20,5 @@ returns-2 c =
 pub write-run-spec : {M : Type 1} → statement M
 write-run-spec =
     tie.close
-    (tie.spec
-    run-requires
-    enum-known-status
-    enum-told
-    write-units-requires
-    returns
-    same-length
-    returns-2)
+    (tie.spec (λ c κs. search needs) (λ c. search needs) (λ c. search needs) (λ c κs. search needs) returns
+    (λ c. search needs) returns-2)

@@ -6,15 +6,6 @@ use Rattle.units.specs.Show.{unitsOf}
 use Rattle.units.proofs.write_units.Statement.{statement}
 use Rattle.units.proofs.write_units.Tie as tie
 
-check-result-requires : tie.Need-check-result-requires
-check-result-requires c κs = search needs
-
-enum-known-status : tie.Need-enum-known-status
-enum-known-status c = search needs
-
-enum-told : tie.Need-enum-told
-enum-told c = search needs
-
 write-checked-requires : tie.Need-write-checked-requires
 write-checked-requires c κs = sym (c .before .before .before .check-result .ensures) ∙ c .before .enum-told .given .1
 
@@ -23,9 +14,6 @@ returns c =
     let args = c .before .before .before .before .before .args in
     rw (sym (c .before .before .before .check-result .ensures) ∙ c .before .status .given .1)
     (values-bad (unitsOf (args .r)) (args .out .now) _ _)
-
-same-length : tie.Need-same-length
-same-length c = search needs
 
 returns-2 : tie.Need-returns-2
 returns-2 c =
@@ -36,11 +24,5 @@ returns-2 c =
 pub write-units-spec : {M : Type 1} → statement M
 write-units-spec =
     tie.close
-    (tie.spec
-    check-result-requires
-    enum-known-status
-    enum-told
-    write-checked-requires
-    returns
-    same-length
-    returns-2)
+    (tie.spec (λ c κs. search needs) (λ c. search needs) (λ c. search needs) write-checked-requires returns
+    (λ c. search needs) returns-2)

@@ -1,8 +1,8 @@
 -- number: every number has a sign and a size that fits.
-use Prim.Native.Nat.{_+_, _^_, _<_}
+use Prim.Native.Nat.{_<_}
 use mathlib.Core.Path.{_≡_}
 use native.Mathlib.Omega.{arith}
-use lib.IntN.{ℤ, pos, negsuc, natAbs, _-ℤ_}
+use lib.IntN.{ℤ, pos, negsuc, _-ℤ_}
 use lib.Signed.{_≤ℤ_, _<ℤ_}
 use mir.Facts.{toZ-ofZ}
 use mir.Syntax.{w64}
@@ -21,12 +21,6 @@ fits-less x h = simp zlin (omega (zorder, simp zlin at h))
 not-negative : (x : ℤ) → x <ℤ pos 0 → pos 0 ≤ℤ (negsuc 0 -ℤ x)
 not-negative x h = simp zlin (omega zorder)
 
-slice-aggregate-write-all : tie.Need-slice-aggregate-write-all
-slice-aggregate-write-all c = search needs
-
-write-all-requires : tie.Need-write-all-requires
-write-all-requires c κs = search needs
-
 sub-less : tie.Need-sub-less
 sub-less c = let s = c .before .before .before in rw (back (s .fits .x)) (fits-less _ (s .fits .x))
 
@@ -43,34 +37,14 @@ add-print-decimal c =
     let f = fits-less _ (s .fits .x) in
     rw (back (s .fits .x), back f) (record { fits = omega (arith, sfits-within f .abs) })
 
-print-decimal-requires : tie.Need-print-decimal-requires
-print-decimal-requires c κs = search needs
-
 cast-print-decimal-2 : tie.Need-cast-print-decimal-2
 cast-print-decimal-2 c =
     let s = c .before in
-    rw (back (s .fits .x)) (down (sfits-within (s .fits .x)) (ltZ-false _ _ (simp (toZ-ofZ, s .fits .x) at (c .if1 .left))) tt)
-
-print-decimal-requires-2 : tie.Need-print-decimal-requires-2
-print-decimal-requires-2 c κs = search needs
-
-returns : tie.Need-returns
-returns c = search needs
-
-returns-2 : tie.Need-returns-2
-returns-2 c = search needs
+    rw (back (s .fits .x))
+    (down (sfits-within (s .fits .x)) (ltZ-false _ _ (simp (toZ-ofZ, s .fits .x) at (c .if1 .left))) tt)
 
 pub number-spec : {M : Type 1} → statement M
 number-spec =
     tie.close
-    (tie.spec
-    slice-aggregate-write-all
-    write-all-requires
-    sub-less
-    cast-print-decimal
-    add-print-decimal
-    print-decimal-requires
-    cast-print-decimal-2
-    print-decimal-requires-2
-    returns
-    returns-2)
+    (tie.spec (λ c. search needs) (λ c κs. search needs) sub-less cast-print-decimal add-print-decimal
+    (λ c κs. search needs) cast-print-decimal-2 (λ c κs. search needs) (λ c. search needs) (λ c. search needs))

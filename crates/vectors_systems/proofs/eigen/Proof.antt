@@ -6,18 +6,6 @@ use borrow.Author.Needs.{needs}
 use Rattle.vectors_systems.proofs.eigen.Statement.{statement}
 use Rattle.vectors_systems.proofs.eigen.Tie as tie
 
-array-set-of-a : tie.Need-array-set-of-a
-array-set-of-a c = search needs
-
-array-set-of-a-2 : tie.Need-array-set-of-a-2
-array-set-of-a-2 c = search needs
-
-array-set-of-b : tie.Need-array-set-of-b
-array-set-of-b c = search needs
-
-array-set-from-rows : tie.Need-array-set-from-rows
-array-set-from-rows c = search needs
-
 returns : tie.Need-returns
 returns c = record {
   few = lit≤ tt;
@@ -33,4 +21,5 @@ returns c = record {
 
 pub eigen-spec : {M : Type 1} → statement M
 eigen-spec =
-    tie.close (tie.spec array-set-of-a array-set-of-a-2 array-set-of-b array-set-from-rows returns)
+    tie.close
+    (tie.spec (λ c. search needs) (λ c. search needs) (λ c. search needs) (λ c. search needs) returns)

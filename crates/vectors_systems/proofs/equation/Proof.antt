@@ -5,18 +5,8 @@ use borrow.Author.Needs.{needs}
 use Rattle.vectors_systems.proofs.equation.Statement.{statement}
 use Rattle.vectors_systems.proofs.equation.Tie as tie
 
-array-set-from-terms : tie.Need-array-set-from-terms
-array-set-from-terms c = search needs
-
-array-set-from-terms-2 : tie.Need-array-set-from-terms-2
-array-set-from-terms-2 c = search needs
-
-array-set-from-terms-3 : tie.Need-array-set-from-terms-3
-array-set-from-terms-3 c = search needs
-
 returns : tie.Need-returns
 returns c = record { count = omega arith; each = below-three _ (search needs) (search needs) (search needs) }
 
 pub equation-spec : {M : Type 1} → statement M
-equation-spec =
-    tie.close (tie.spec array-set-from-terms array-set-from-terms-2 array-set-from-terms-3 returns)
+equation-spec = tie.close (tie.spec (λ c. search needs) (λ c. search needs) (λ c. search needs) returns)

@@ -13,12 +13,6 @@ use borrow.Author.Needs.{needs}
 use Rattle.vectors_systems.proofs.number.Statement.{statement}
 use Rattle.vectors_systems.proofs.number.Tie as tie
 
-slice-aggregate-write-all : tie.Need-slice-aggregate-write-all
-slice-aggregate-write-all c = search needs
-
-write-all-requires : tie.Need-write-all-requires
-write-all-requires c κs = search needs
-
 sub-m : tie.Need-sub-m
 sub-m c =
     let s = c .before .before .before in
@@ -31,33 +25,13 @@ cast-print-decimal c =
     let n : s .args .x <ℤ pos 0 = ltZ-true _ _ (simp (toZ-ofZ, s .fits .x) at (c .before .before .if1 .taken)) in
     simp (toZ-ofZ, s .fits .x, +ℤ-idl, f) (down (within-neg (s .pre)) (simp zlin (omega (zorder, n))) tt)
 
-print-decimal-requires : tie.Need-print-decimal-requires
-print-decimal-requires c κs = search needs
-
 cast-print-decimal-2 : tie.Need-cast-print-decimal-2
 cast-print-decimal-2 c =
     let s = c .before in
     rw (back (s .fits .x)) (down (s .pre) (ltZ-false _ _ (simp (toZ-ofZ, s .fits .x) at (c .if1 .left))) tt)
 
-print-decimal-requires-2 : tie.Need-print-decimal-requires-2
-print-decimal-requires-2 c κs = search needs
-
-returns : tie.Need-returns
-returns c = search needs
-
-returns-2 : tie.Need-returns-2
-returns-2 c = search needs
-
 pub number-spec : {M : Type 1} → statement M
 number-spec =
     tie.close
-    (tie.spec
-    slice-aggregate-write-all
-    write-all-requires
-    sub-m
-    cast-print-decimal
-    print-decimal-requires
-    cast-print-decimal-2
-    print-decimal-requires-2
-    returns
-    returns-2)
+    (tie.spec (λ c. search needs) (λ c κs. search needs) sub-m cast-print-decimal (λ c κs. search needs)
+    cast-print-decimal-2 (λ c κs. search needs) (λ c. search needs) (λ c. search needs))

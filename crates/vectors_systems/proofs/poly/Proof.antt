@@ -5,9 +5,6 @@ use borrow.Author.Needs.{needs}
 use Rattle.vectors_systems.proofs.poly.Statement.{statement}
 use Rattle.vectors_systems.proofs.poly.Tie as tie
 
-array-set-from-eqs : tie.Need-array-set-from-eqs
-array-set-from-eqs c = search needs
-
 returns : tie.Need-returns
 returns c =
     let p = c .pre in
@@ -16,9 +13,12 @@ returns c =
       facts = record {
         some = p .0;
         places = omega arith;
-        parts = record { each = below-two _ (equation-of (p .1 .0) (p .1 .1 .0)) (equation-of (p .1 .0) (p .1 .1 .1)) (p .1 .0) };
+        parts = record {
+          each = below-two _ (equation-of (p .1 .0) (p .1 .1 .0))
+              (equation-of (p .1 .0) (p .1 .1 .1)) (p .1 .0);
+        };
       };
     }
 
 pub poly-spec : {M : Type 1} → statement M
-poly-spec = tie.close (tie.spec array-set-from-eqs returns)
+poly-spec = tie.close (tie.spec (λ c. search needs) returns)

@@ -4,15 +4,6 @@ use borrow.Author.Needs.{needs}
 use Rattle.vectors_systems.proofs.show.Statement.{statement}
 use Rattle.vectors_systems.proofs.show.Tie as tie
 
-equations-requires : tie.Need-equations-requires
-equations-requires c κs = search needs
-
-slice-aggregate-write-all : tie.Need-slice-aggregate-write-all
-slice-aggregate-write-all c = search needs
-
-write-all-requires : tie.Need-write-all-requires
-write-all-requires c κs = search needs
-
 values-over-requires : tie.Need-values-over-requires
 values-over-requires c κs =
     let s = c .before .before .before in
@@ -31,20 +22,11 @@ slopes-over-requires c κs =
 rows-requires : tie.Need-rows-requires
 rows-requires c κs =
     let s = c .before .before .before .before .before .before in
-    slopes-shown (s .pre .0) (s .pre .1 .1) (c .before .before .before .before .before .equations .ensures) (c .slopes-over .ensures)
-
-returns : tie.Need-returns
-returns c = search needs
+    slopes-shown (s .pre .0) (s .pre .1 .1) (c .before .before .before .before .before .equations .ensures)
+    (c .slopes-over .ensures)
 
 pub show-spec : {M : Type 1} → statement M
 show-spec =
     tie.close
-    (tie.spec
-    equations-requires
-    slice-aggregate-write-all
-    write-all-requires
-    values-over-requires
-    row-requires
-    slopes-over-requires
-    rows-requires
-    returns)
+    (tie.spec (λ c κs. search needs) (λ c. search needs) (λ c κs. search needs) values-over-requires row-requires
+    slopes-over-requires rows-requires (λ c. search needs))

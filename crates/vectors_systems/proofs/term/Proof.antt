@@ -7,15 +7,9 @@ use borrow.Author.Needs.{needs}
 use Rattle.vectors_systems.proofs.term.Statement.{statement}
 use Rattle.vectors_systems.proofs.term.Tie as tie
 
-array-write-e : tie.Need-array-write-e
-array-write-e c = search needs
-
-array-write-e-2 : tie.Need-array-write-e-2
-array-write-e-2 c = search needs
-
 returns : tie.Need-returns
 unfolding degree carry
 returns c = record { coef = rw (back (c .fits .coef)) (search needs); deg = omega arith }
 
 pub term-spec : {M : Type 1} → statement M
-term-spec = tie.close (tie.spec array-write-e array-write-e-2 returns)
+term-spec = tie.close (tie.spec (λ c. search needs) (λ c. search needs) returns)

@@ -24,9 +24,6 @@ abbrev μ-loop : tie.MeasureT-loop
 loop-holds : tie.Need-loop-holds Inv-loop μ-loop
 loop-holds c = record { power = sym (pow-zero 10); low = λ p. absurd (omega arith); room = omega arith }
 
-add-result : tie.Need-add-result Inv-loop μ-loop
-add-result c = omega arith
-
 returns : tie.Need-returns Inv-loop μ-loop
 returns c =
     let a = c .before .before .before .args in
@@ -35,15 +32,6 @@ returns c =
     let over = show-over (a .k) (l .i) (a .m) (c .before .loop-test .taken) (l .inv .low) in
     let under = show-under (a .k) (l .i) (a .m) (omega (arith, l .inv .power, c .if1 .taken)) in
     omega arith
-
-mul-bound : tie.Need-mul-bound Inv-loop μ-loop
-mul-bound c = omega arith
-
-add-i : tie.Need-add-i Inv-loop μ-loop
-add-i c = omega arith
-
-loop-less : tie.Need-loop-less Inv-loop μ-loop
-loop-less c = omega arith
 
 loop-again : tie.Need-loop-again Inv-loop μ-loop
 loop-again c =
@@ -66,14 +54,5 @@ returns-2 c =
 pub digits-of-spec : {M : Type 1} → statement M
 digits-of-spec =
     tie.close
-    (tie.spec
-    Inv-loop
-    μ-loop
-    loop-holds
-    add-result
-    returns
-    mul-bound
-    add-i
-    loop-less
-    loop-again
-    returns-2)
+    (tie.spec Inv-loop μ-loop loop-holds (λ c. omega arith) returns (λ c. omega arith) (λ c. omega arith)
+    (λ c. omega arith) loop-again returns-2)

@@ -24,20 +24,11 @@ abbrev μ-loop : tie.MeasureT-loop
 loop-holds : tie.Need-loop-holds Inv-loop μ-loop
 loop-holds c = record { i-b = omega arith; wrote = wrote-none _ _ }
 
-shared-slice-read-put-byte : tie.Need-shared-slice-read-put-byte Inv-loop μ-loop
-shared-slice-read-put-byte c = search needs
-
 put-byte-requires : tie.Need-put-byte-requires Inv-loop μ-loop
 put-byte-requires c κs =
     let start = c .before .before .before .before .before .before in
     let l = c .before .before .before .loop in
     omega (arith, l .inv .wrote .next, length-take-le (l .i) (start .args .bs .now) (l .inv .i-b), start .pre)
-
-add-i : tie.Need-add-i Inv-loop μ-loop
-add-i c = search needs
-
-loop-less : tie.Need-loop-less Inv-loop μ-loop
-loop-less c = search needs
 
 loop-again : tie.Need-loop-again Inv-loop μ-loop
 loop-again c =
@@ -46,26 +37,19 @@ loop-again c =
     let bs = turn .before .before .before .before .args .bs .now in
     record {
       i-b = omega arith;
-      wrote = rw (add-one (l .i), take-suc bs (l .i) 0 (turn .loop-test .taken)) (wrote-append (l .inv .wrote) (c .before .before .put-byte .ensures));
+      wrote = rw (add-one (l .i), take-suc bs (l .i) 0 (turn .loop-test .taken))
+          (wrote-append (l .inv .wrote) (c .before .before .put-byte .ensures));
     }
 
 same-length : tie.Need-same-length Inv-loop μ-loop
 same-length c = wrote-length (c .before .loop .inv .wrote)
 
 returns : tie.Need-returns Inv-loop μ-loop
-returns c = rw (take-all (c .before .loop .i) (c .before .before .before .before .args .bs .now) (c .loop-test .left)) at (c .before .loop .inv .wrote)
+returns c = rw (take-all (c .before .loop .i) (c .before .before .before .before .args .bs .now) (c .loop-test .left))
+    at (c .before .loop .inv .wrote)
 
 pub put-bytes-spec : {M : Type 1} → statement M
 put-bytes-spec =
     tie.close
-    (tie.spec
-    Inv-loop
-    μ-loop
-    loop-holds
-    shared-slice-read-put-byte
-    put-byte-requires
-    add-i
-    loop-less
-    loop-again
-    same-length
-    returns)
+    (tie.spec Inv-loop μ-loop loop-holds (λ c. search needs) put-byte-requires (λ c. search needs) (λ c. search needs)
+    loop-again same-length returns)

@@ -45,16 +45,14 @@ Inv-loop buf₀ at m k end left₀ p₀ buf left p = Inv buf₀ buf (showMagnitu
 abbrev μ-loop : tie.MeasureT-loop
 μ-loop buf₀ at m k end left₀ p₀ buf left p = p
 
-digits-of-requires : tie.Need-digits-of-requires Inv-loop μ-loop
-digits-of-requires c κs = search needs
-
 add-end : tie.Need-add-end Inv-loop μ-loop
 add-end c = let a = c .before .before .args in omega (arith, c .digits-of .ensures, show-short (a .k) (a .m))
 
 loop-holds : tie.Need-loop-holds Inv-loop μ-loop
 loop-holds c =
     let a = c .before .before .args in
-    let e : a .at + c .digits-of .result - a .at ≡ length (showMagnitude (a .k) (a .m)) = omega (arith, c .digits-of .ensures) in
+    let e : a .at + c .digits-of .result - a .at ≡ length (showMagnitude (a .k) (a .m)) =
+    omega (arith, c .digits-of .ensures) in
     let f = show-full (a .k) (a .m) in
     record {
       low = omega arith;
@@ -65,24 +63,12 @@ loop-holds c =
       whole = rw (e, append-nil) f;
     }
 
-sub-p : tie.Need-sub-p Inv-loop μ-loop
-sub-p c = omega arith
-
-add-put-byte : tie.Need-add-put-byte Inv-loop μ-loop
-add-put-byte c = search needs
-
-cast-put-byte : tie.Need-cast-put-byte Inv-loop μ-loop
-cast-put-byte c = search needs
-
 put-byte-requires : tie.Need-put-byte-requires Inv-loop μ-loop
 put-byte-requires c κs =
     let start = c .before .before .before .before .before in
     let l = c .before .before .loop in
     let short = show-short (start .args .k) (start .args .m) in
     omega (arith, l .inv .high, c .before .before .before .digits-of .ensures, start .pre, c .before .loop-test .taken)
-
-loop-less : tie.Need-loop-less Inv-loop μ-loop
-loop-less c = omega arith
 
 loop-again : tie.Need-loop-again Inv-loop μ-loop
 loop-again c =
@@ -107,17 +93,5 @@ returns c =
 pub put-magnitude-spec : {M : Type 1} → statement M
 put-magnitude-spec =
     tie.close
-    (tie.spec
-    Inv-loop
-    μ-loop
-    digits-of-requires
-    add-end
-    loop-holds
-    sub-p
-    add-put-byte
-    cast-put-byte
-    put-byte-requires
-    loop-less
-    loop-again
-    same-length
-    returns)
+    (tie.spec Inv-loop μ-loop (λ c κs. search needs) add-end loop-holds (λ c. omega arith) (λ c. search needs)
+    (λ c. search needs) put-byte-requires (λ c. omega arith) loop-again same-length returns)

@@ -34,14 +34,9 @@ abbrev μ-loop : tie.MeasureT-loop
 loop-holds : tie.Need-loop-holds Inv-loop μ-loop
 loop-holds c = record { room = omega arith; done = []; wrote = wrote-none _ _; whole = refl }
 
-mul-v : tie.Need-mul-v Inv-loop μ-loop
-mul-v c = search needs
-
-shared-slice-copy-out-v : tie.Need-shared-slice-copy-out-v Inv-loop μ-loop
-shared-slice-copy-out-v c = search needs
-
 put-byte-requires : tie.Need-put-byte-requires Inv-loop μ-loop
-put-byte-requires c κs = omega (arith, c .before .before .before .loop .inv .room, c .before .before .before .before .before .pre .0)
+put-byte-requires c κs =
+    omega (arith, c .before .before .before .loop .inv .room, c .before .before .before .before .before .pre .0)
 
 put-number-requires : tie.Need-put-number-requires Inv-loop μ-loop
 put-number-requires c κs =
@@ -49,18 +44,14 @@ put-number-requires c κs =
     let l = c .before .before .before .before .before .before .before .loop in
     let test = c .before .before .before .before .before .before .loop-test .taken in (
       omega (arith, l .inv .room, c .before .before .before .put-byte .ensures .next, start .pre .0, test),
-      rw (toZ-ofZ {w = w64} {z = getD (start .args .xs .now) (l .i) (pos 0)} (search needs)) (small-at _ _ (start .pre .1) test),
+      rw (toZ-ofZ {w = w64} {z = getD (start .args .xs .now) (l .i) (pos 0)} (search needs))
+          (small-at _ _ (start .pre .1) test),
     )
-
-add-i : tie.Need-add-i Inv-loop μ-loop
-add-i c = search needs
-
-loop-less : tie.Need-loop-less Inv-loop μ-loop
-loop-less c = search needs
 
 loop-again : tie.Need-loop-again Inv-loop μ-loop
 loop-again c =
-    let xs = c .before .before .before .before .before .before .before .before .before .before .before .before .args .xs .now in
+    let xs =
+    c .before .before .before .before .before .before .before .before .before .before .before .before .args .xs .now in
     let l = c .before .before .before .before .before .before .before .before .before .before .loop in
     let test = c .before .before .before .before .before .before .before .before .before .loop-test .taken in
     let v = getD xs (l .i) (pos 0) in
@@ -86,16 +77,5 @@ returns c =
 pub put-more-spec : {M : Type 1} → statement M
 put-more-spec =
     tie.close
-    (tie.spec
-    Inv-loop
-    μ-loop
-    loop-holds
-    mul-v
-    shared-slice-copy-out-v
-    put-byte-requires
-    put-number-requires
-    add-i
-    loop-less
-    loop-again
-    same-length
-    returns)
+    (tie.spec Inv-loop μ-loop loop-holds (λ c. search needs) (λ c. search needs) put-byte-requires put-number-requires
+    (λ c. search needs) (λ c. search needs) loop-again same-length returns)

@@ -32,15 +32,6 @@ non (negsuc n) t = absurd (true≢false t)
 abs-requires : tie.Need-abs-requires
 abs-requires c κs = rw (toZ-ofZ (c .before .fits .v)) (omega (arith, small (c .before .args .v), c .before .pre .1))
 
-put-byte-requires : tie.Need-put-byte-requires
-put-byte-requires c κs = search needs
-
-put-magnitude-requires : tie.Need-put-magnitude-requires
-put-magnitude-requires c κs = search needs
-
-same-length : tie.Need-same-length
-same-length c = search needs
-
 returns : tie.Need-returns
 returns c =
     let test = c .before .before .before .before .before .before .before .before .if1 .taken in
@@ -48,13 +39,8 @@ returns c =
     let start = c .before .before .before .before .before .before .before .before .before .before .before in
     let e = toZ-ofZ (start .fits .v) in
     rw (neg (start .args .v) (rw e at test), ← (abs ∙ ap natAbs e))
-    (wrote-append (c .before .before .before .before .before .before .put-byte .ensures) (c .before .before .put-magnitude .ensures))
-
-put-magnitude-requires-2 : tie.Need-put-magnitude-requires-2
-put-magnitude-requires-2 c κs = search needs
-
-same-length-2 : tie.Need-same-length-2
-same-length-2 c = search needs
+    (wrote-append (c .before .before .before .before .before .before .put-byte .ensures)
+    (c .before .before .put-magnitude .ensures))
 
 returns-2 : tie.Need-returns-2
 returns-2 c =
@@ -69,12 +55,5 @@ returns-2 c =
 pub put-number-spec : {M : Type 1} → statement M
 put-number-spec =
     tie.close
-    (tie.spec
-    abs-requires
-    put-byte-requires
-    put-magnitude-requires
-    same-length
-    returns
-    put-magnitude-requires-2
-    same-length-2
-    returns-2)
+    (tie.spec abs-requires (λ c κs. search needs) (λ c κs. search needs) (λ c. search needs) returns
+    (λ c κs. search needs) (λ c. search needs) returns-2)

@@ -9,9 +9,6 @@ use Rattle.writing.proofs.Lists.{taken-first}
 use Rattle.writing.proofs.put_row_line.Statement.{statement}
 use Rattle.writing.proofs.put_row_line.Tie as tie
 
-array-share-prefix-row : tie.Need-array-share-prefix-row
-array-share-prefix-row c = search needs
-
 slice-aggregate-put-list-line : tie.Need-slice-aggregate-put-list-line
 slice-aggregate-put-list-line c =
     let start = c .before .before .before .before in
@@ -28,9 +25,6 @@ put-list-line-requires c κs =
       rw (taken-first n row (omega (arith, start .pre .few))) (start .pre .small),
     )
 
-same-length : tie.Need-same-length
-same-length c = search needs
-
 returns : tie.Need-returns
 returns c =
     let start = c .before .before .before .before .before .before .before in
@@ -41,9 +35,4 @@ returns c =
 pub put-row-line-spec : {M : Type 1} → statement M
 put-row-line-spec =
     tie.close
-    (tie.spec
-    array-share-prefix-row
-    slice-aggregate-put-list-line
-    put-list-line-requires
-    same-length
-    returns)
+    (tie.spec (λ c. search needs) slice-aggregate-put-list-line put-list-line-requires (λ c. search needs) returns)

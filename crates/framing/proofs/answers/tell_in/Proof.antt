@@ -5,22 +5,10 @@ use Rattle.framing.proofs.Told.{told-text, told-all, told-fault}
 use Rattle.framing.proofs.answers.tell_in.Statement.{statement}
 use Rattle.framing.proofs.answers.tell_in.Tie as tie
 
-enum-known-status : tie.Need-enum-known-status
-enum-known-status c = search needs
-
-put-fault-requires : tie.Need-put-fault-requires
-put-fault-requires c κs = search needs
-
-enum-told : tie.Need-enum-told
-enum-told c = search needs
-
 returns : tie.Need-returns
 returns c =
     let start = c .before .before .before .before .before in
     told-text _ _ (start .pre) (c .before .before .enum-told .given .1) (c .if1 .taken)
-
-same-length : tie.Need-same-length
-same-length c = search needs
 
 returns-2 : tie.Need-returns-2
 returns-2 c =
@@ -36,11 +24,5 @@ returns-3 c =
 pub tell-in-spec : {M : Type 1} → statement M
 tell-in-spec =
     tie.close
-    (tie.spec
-    enum-known-status
-    put-fault-requires
-    enum-told
-    returns
-    same-length
-    returns-2
+    (tie.spec (λ c. search needs) (λ c κs. search needs) (λ c. search needs) returns (λ c. search needs) returns-2
     returns-3)

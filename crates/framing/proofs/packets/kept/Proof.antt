@@ -4,14 +4,5 @@ use native.Mathlib.Omega.{arith}
 use Rattle.framing.proofs.packets.kept.Statement.{statement}
 use Rattle.framing.proofs.packets.kept.Tie as tie
 
-returns : tie.Need-returns
-returns c = omega arith
-
-add-result : tie.Need-add-result
-add-result c = search needs
-
-returns-2 : tie.Need-returns-2
-returns-2 c = omega arith
-
 pub kept-spec : {M : Type 1} → statement M
-kept-spec = tie.close (tie.spec returns add-result returns-2)
+kept-spec = tie.close (tie.spec (λ c. omega arith) (λ c. search needs) (λ c. omega arith))

@@ -9,12 +9,6 @@ use Rattle.framing.proofs.Ends.{end-is}
 use Rattle.framing.proofs.packets.look.Statement.{statement}
 use Rattle.framing.proofs.packets.look.Tie as tie
 
-piece-end-requires : tie.Need-piece-end-requires
-piece-end-requires c κs = search needs
-
-nothing-requires : tie.Need-nothing-requires
-nothing-requires c κs = search needs
-
 returns : tie.Need-returns
 unfolding lookOf lookAt
 returns c = record {
@@ -23,9 +17,6 @@ returns c = record {
   low = rw (c .nothing .ensures) (omega arith);
   high = rw (c .nothing .ensures) (omega arith);
 }
-
-nothing-requires-2 : tie.Need-nothing-requires-2
-nothing-requires-2 c κs = search needs
 
 returns-2 : tie.Need-returns-2
 unfolding lookOf lookAt
@@ -42,15 +33,6 @@ returns-2 c = record {
 
 slice-aggregate-request-of : tie.Need-slice-aggregate-request-of
 slice-aggregate-request-of c = sym (length-take-le _ _ (omega (arith, c .before .if2 .left)))
-
-request-of-requires : tie.Need-request-of-requires
-request-of-requires c κs = search needs
-
-add-text-at : tie.Need-add-text-at
-add-text-at c = search needs
-
-text-at-requires : tie.Need-text-at-requires
-text-at-requires c κs = search needs
 
 returns-3 : tie.Need-returns-3
 unfolding lookOf lookAt
@@ -70,14 +52,5 @@ returns-3 c =
 pub look-spec : {M : Type 1} → statement M
 look-spec =
     tie.close
-    (tie.spec
-    piece-end-requires
-    nothing-requires
-    returns
-    nothing-requires-2
-    returns-2
-    slice-aggregate-request-of
-    request-of-requires
-    add-text-at
-    text-at-requires
-    returns-3)
+    (tie.spec (λ c κs. search needs) (λ c κs. search needs) returns (λ c κs. search needs) returns-2
+    slice-aggregate-request-of (λ c κs. search needs) (λ c. search needs) (λ c κs. search needs) returns-3)

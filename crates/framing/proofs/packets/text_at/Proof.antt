@@ -6,24 +6,6 @@ use Rattle.framing.specs.Packets.{textAt}
 use Rattle.framing.proofs.packets.text_at.Statement.{statement}
 use Rattle.framing.proofs.packets.text_at.Tie as tie
 
-enum-told : tie.Need-enum-told
-enum-told c = search needs
-
-nothing-requires : tie.Need-nothing-requires
-nothing-requires c κs = search needs
-
-enum-known-request : tie.Need-enum-known-request
-enum-known-request c = search needs
-
-kept-requires : tie.Need-kept-requires
-kept-requires c κs = search needs
-
-add-to : tie.Need-add-to
-add-to c = omega arith
-
-nothing-requires-2 : tie.Need-nothing-requires-2
-nothing-requires-2 c κs = search needs
-
 returns : tie.Need-returns
 unfolding textAt
 returns c = record {
@@ -32,9 +14,6 @@ returns c = record {
   low = rw (c .nothing2 .ensures) (omega arith);
   high = rw (c .nothing2 .ensures) (omega arith);
 }
-
-passed-requires : tie.Need-passed-requires
-passed-requires c κs = search needs
 
 returns-2 : tie.Need-returns-2
 unfolding textAt
@@ -57,14 +36,5 @@ returns-3 c = record {
 pub text-at-spec : {M : Type 1} → statement M
 text-at-spec =
     tie.close
-    (tie.spec
-    enum-told
-    nothing-requires
-    enum-known-request
-    kept-requires
-    add-to
-    nothing-requires-2
-    returns
-    passed-requires
-    returns-2
-    returns-3)
+    (tie.spec (λ c. search needs) (λ c κs. search needs) (λ c. search needs) (λ c κs. search needs) (λ c. omega arith)
+    (λ c κs. search needs) returns (λ c κs. search needs) returns-2 returns-3)

@@ -6,12 +6,6 @@ use Rattle.framing.specs.declared.requests.Length.{Length}
 use Rattle.framing.proofs.requests.length_of.Statement.{statement}
 use Rattle.framing.proofs.requests.length_of.Tie as tie
 
-spelled-requires : tie.Need-spelled-requires
-spelled-requires c κs = search needs
-
-value-of-requires : tie.Need-value-of-requires
-value-of-requires c κs = search needs
-
 returns : tie.Need-returns
 unfolding lengthOf
 returns c = rw (sym (c .before .before .spelled .ensures) ∙ c .before .if1 .taken) (ap Length.Is (c .value-of .ensures))
@@ -21,4 +15,4 @@ unfolding lengthOf
 returns-2 c = rw (sym (c .before .spelled .ensures) ∙ c .if1 .left)
 
 pub length-of-spec : {M : Type 1} → statement M
-length-of-spec = tie.close (tie.spec spelled-requires value-of-requires returns returns-2)
+length-of-spec = tie.close (tie.spec (λ c κs. search needs) (λ c κs. search needs) returns returns-2)

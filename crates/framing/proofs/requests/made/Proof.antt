@@ -4,15 +4,6 @@ use Rattle.framing.specs.Requests.{asked}
 use Rattle.framing.proofs.requests.made.Statement.{statement}
 use Rattle.framing.proofs.requests.made.Tie as tie
 
-enum-known-name : tie.Need-enum-known-name
-enum-known-name c = search needs
-
-sized-requires : tie.Need-sized-requires
-sized-requires c κs = search needs
-
-enum-told : tie.Need-enum-told
-enum-told c = search needs
-
 returns : tie.Need-returns
 returns c = rw (c .before .before .name .given .1) (c .sized .ensures)
 
@@ -21,4 +12,4 @@ unfolding asked
 returns-2 c = search needs
 
 pub made-spec : {M : Type 1} → statement M
-made-spec = tie.close (tie.spec enum-known-name sized-requires enum-told returns returns-2)
+made-spec = tie.close (tie.spec (λ c. search needs) (λ c κs. search needs) (λ c. search needs) returns returns-2)

@@ -5,21 +5,9 @@ use Rattle.framing.specs.Requests.{operationOf}
 use Rattle.framing.proofs.requests.operation.Statement.{statement}
 use Rattle.framing.proofs.requests.operation.Tie as tie
 
-slice-aggregate-same-bytes : tie.Need-slice-aggregate-same-bytes
-slice-aggregate-same-bytes c = search needs
-
-same-bytes-requires : tie.Need-same-bytes-requires
-same-bytes-requires c κs = search needs
-
 returns : tie.Need-returns
 unfolding operationOf
 returns c = rw (sym (c .before .same-bytes .ensures) ∙ c .if1 .taken)
-
-slice-aggregate-same-bytes-2 : tie.Need-slice-aggregate-same-bytes-2
-slice-aggregate-same-bytes-2 c = search needs
-
-same-bytes-requires-2 : tie.Need-same-bytes-requires-2
-same-bytes-requires-2 c κs = search needs
 
 returns-2 : tie.Need-returns-2
 unfolding operationOf
@@ -29,12 +17,6 @@ returns-2 c =
       sym (first .before .same-bytes .ensures) ∙ first .if1 .left,
       sym (c .before .same-bytes2 .ensures) ∙ c .if2 .taken,
     )
-
-slice-aggregate-same-bytes-3 : tie.Need-slice-aggregate-same-bytes-3
-slice-aggregate-same-bytes-3 c = search needs
-
-same-bytes-requires-3 : tie.Need-same-bytes-requires-3
-same-bytes-requires-3 c κs = search needs
 
 returns-3 : tie.Need-returns-3
 unfolding operationOf
@@ -61,14 +43,5 @@ returns-4 c =
 pub operation-spec : {M : Type 1} → statement M
 operation-spec =
     tie.close
-    (tie.spec
-    slice-aggregate-same-bytes
-    same-bytes-requires
-    returns
-    slice-aggregate-same-bytes-2
-    same-bytes-requires-2
-    returns-2
-    slice-aggregate-same-bytes-3
-    same-bytes-requires-3
-    returns-3
-    returns-4)
+    (tie.spec (λ c. search needs) (λ c κs. search needs) returns (λ c. search needs) (λ c κs. search needs) returns-2
+    (λ c. search needs) (λ c κs. search needs) returns-3 returns-4)

@@ -9,36 +9,12 @@ use Rattle.framing.specs.Requests.{split, requestOf}
 use Rattle.framing.proofs.requests.request_of.Statement.{statement}
 use Rattle.framing.proofs.requests.request_of.Tie as tie
 
-after-space-requires : tie.Need-after-space-requires
-after-space-requires c κs = search needs
-
 returns : tie.Need-returns
 unfolding requestOf split
 returns c = rw (← c .before .after-space .ensures .is, eq-eqb _ _ (c .if1 .taken))
 
-sub-end : tie.Need-sub-end
-sub-end c = search needs
-
 slice-aggregate-operation : tie.Need-slice-aggregate-operation
 slice-aggregate-operation c = sym (length-take-le _ _ (omega (arith, c .before .before .after-space .ensures .inside)))
-
-operation-requires : tie.Need-operation-requires
-operation-requires c κs = search needs
-
-sub-length-of : tie.Need-sub-length-of
-sub-length-of c = search needs
-
-part-length-of-start : tie.Need-part-length-of-start
-part-length-of-start c = search needs
-
-part-length-of-end : tie.Need-part-length-of-end
-part-length-of-end c = search needs
-
-length-of-requires : tie.Need-length-of-requires
-length-of-requires c κs = search needs
-
-made-requires : tie.Need-made-requires
-made-requires c κs = search needs
 
 returns-2 : tie.Need-returns-2
 unfolding requestOf split
@@ -52,15 +28,5 @@ returns-2 c =
 pub request-of-spec : {M : Type 1} → statement M
 request-of-spec =
     tie.close
-    (tie.spec
-    after-space-requires
-    returns
-    sub-end
-    slice-aggregate-operation
-    operation-requires
-    sub-length-of
-    part-length-of-start
-    part-length-of-end
-    length-of-requires
-    made-requires
-    returns-2)
+    (tie.spec (λ c κs. search needs) returns (λ c. search needs) slice-aggregate-operation (λ c κs. search needs)
+    (λ c. search needs) (λ c. search needs) (λ c. search needs) (λ c κs. search needs) (λ c κs. search needs) returns-2)

@@ -4,12 +4,6 @@ use Rattle.framing.specs.Requests.{asked}
 use Rattle.framing.proofs.requests.sized.Statement.{statement}
 use Rattle.framing.proofs.requests.sized.Tie as tie
 
-enum-known-length : tie.Need-enum-known-length
-enum-known-length c = search needs
-
-enum-told : tie.Need-enum-told
-enum-told c = search needs
-
 returns : tie.Need-returns
 unfolding asked
 returns c = rw (c .before .length .given .1)
@@ -19,4 +13,4 @@ unfolding asked
 returns-2 c = search needs
 
 pub sized-spec : {M : Type 1} → statement M
-sized-spec = tie.close (tie.spec enum-known-length enum-told returns returns-2)
+sized-spec = tie.close (tie.spec (λ c. search needs) (λ c. search needs) returns returns-2)

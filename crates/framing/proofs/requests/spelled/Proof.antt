@@ -9,15 +9,9 @@ returns : tie.Need-returns
 unfolding isSpelled
 returns c = rw (eq-eqb _ _ (c .if1 .taken))
 
-shared-slice-read-if2 : tie.Need-shared-slice-read-if2
-shared-slice-read-if2 c = search needs
-
 returns-2 : tie.Need-returns-2
 unfolding isSpelled
 returns-2 c = rw (ne-eqb _ _ (c .before .before .if1 .left)) (simp (eq-eqb _ _ (c .if2 .taken)))
-
-all-digits-requires : tie.Need-all-digits-requires
-all-digits-requires c κs = search needs
 
 returns-3 : tie.Need-returns-3
 unfolding isSpelled
@@ -26,5 +20,4 @@ returns-3 c =
     (simp (ne-eqb _ _ (c .before .if2 .left)) (c .all-digits .ensures))
 
 pub spelled-spec : {M : Type 1} → statement M
-spelled-spec =
-    tie.close (tie.spec returns shared-slice-read-if2 returns-2 all-digits-requires returns-3)
+spelled-spec = tie.close (tie.spec returns (λ c. search needs) returns-2 (λ c κs. search needs) returns-3)

@@ -8,21 +8,6 @@ use borrow.Author.Needs.{needs}
 use Rattle.job_read.proofs.first.box_at.Statement.{statement}
 use Rattle.job_read.proofs.first.box_at.Tie as tie
 
-low-line-requires : tie.Need-low-line-requires
-low-line-requires c κs = search needs
-
-job-line-number-requires : tie.Need-job-line-number-requires
-job-line-number-requires c κs = search needs
-
-on-line-requires : tie.Need-on-line-requires
-on-line-requires c κs = search needs
-
-is-bad-requires : tie.Need-is-bad-requires
-is-bad-requires c κs = search needs
-
-no-box-requires : tie.Need-no-box-requires
-no-box-requires c κs = search needs
-
 returns : tie.Need-returns
 returns c =
     let c4 = c .before .before .before .before in
@@ -46,18 +31,6 @@ high-line-requires c κs =
     (c4 .before .before .before .pre .0) head refl (c4 .before .low-line .ensures)
     (c .before .before .before .on-line .ensures) (c4 .job-line-number .ensures) in
     (leads-inside _ _ low, c4 .before .before .before .pre .1)
-
-job-line-number-requires-2 : tie.Need-job-line-number-requires-2
-job-line-number-requires-2 c κs = search needs
-
-on-line-requires-2 : tie.Need-on-line-requires-2
-on-line-requires-2 c κs = search needs
-
-is-bad-requires-2 : tie.Need-is-bad-requires-2
-is-bad-requires-2 c κs = search needs
-
-no-box-requires-2 : tie.Need-no-box-requires-2
-no-box-requires-2 c κs = search needs
 
 returns-2 : tie.Need-returns-2
 returns-2 c =
@@ -94,18 +67,6 @@ inverse-line-requires c κs =
     (high-leads t _ _ (leads-inside _ _ low) head refl (c4 .before .high-line .ensures)
     (c .before .before .before .on-line2 .ensures) (c4 .job-line-number2 .ensures)) in
     (leads-inside _ _ high, c12 .before .pre .1)
-
-job-line-number-requires-3 : tie.Need-job-line-number-requires-3
-job-line-number-requires-3 c κs = search needs
-
-on-line-requires-3 : tie.Need-on-line-requires-3
-on-line-requires-3 c κs = search needs
-
-is-bad-requires-3 : tie.Need-is-bad-requires-3
-is-bad-requires-3 c κs = search needs
-
-no-box-requires-3 : tie.Need-no-box-requires-3
-no-box-requires-3 c κs = search needs
 
 returns-3 : tie.Need-returns-3
 returns-3 c =
@@ -153,12 +114,6 @@ steps-line-requires c κs =
     (c .before .before .before .on-line3 .ensures) (c4 .job-line-number3 .ensures)) in
     leads-inside _ _ inverse
 
-job-line-number-requires-4 : tie.Need-job-line-number-requires-4
-job-line-number-requires-4 c κs = search needs
-
-on-line-requires-4 : tie.Need-on-line-requires-4
-on-line-requires-4 c κs = search needs
-
 returns-4 : tie.Need-returns-4
 returns-4 c =
     let c4 = c .before .before .before .before in
@@ -189,26 +144,8 @@ returns-4 c =
 pub box-at-spec : {M : Type 1} → statement M
 box-at-spec =
     tie.close
-    (tie.spec
-    low-line-requires
-    job-line-number-requires
-    on-line-requires
-    is-bad-requires
-    no-box-requires
-    returns
-    high-line-requires
-    job-line-number-requires-2
-    on-line-requires-2
-    is-bad-requires-2
-    no-box-requires-2
-    returns-2
-    inverse-line-requires
-    job-line-number-requires-3
-    on-line-requires-3
-    is-bad-requires-3
-    no-box-requires-3
-    returns-3
-    steps-line-requires
-    job-line-number-requires-4
-    on-line-requires-4
-    returns-4)
+    (tie.spec (λ c κs. search needs) (λ c κs. search needs) (λ c κs. search needs) (λ c κs. search needs)
+    (λ c κs. search needs) returns high-line-requires (λ c κs. search needs) (λ c κs. search needs)
+    (λ c κs. search needs) (λ c κs. search needs) returns-2 inverse-line-requires (λ c κs. search needs)
+    (λ c κs. search needs) (λ c κs. search needs) (λ c κs. search needs) returns-3 steps-line-requires
+    (λ c κs. search needs) (λ c κs. search needs) returns-4)

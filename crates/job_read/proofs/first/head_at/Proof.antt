@@ -8,24 +8,6 @@ use borrow.Author.Needs.{needs}
 use Rattle.job_read.proofs.first.head_at.Statement.{statement}
 use Rattle.job_read.proofs.first.head_at.Tie as tie
 
-zero-head-requires : tie.Need-zero-head-requires
-zero-head-requires c κs = search needs
-
-number-line-requires : tie.Need-number-line-requires
-number-line-requires c κs = search needs
-
-job-line-number-requires : tie.Need-job-line-number-requires
-job-line-number-requires c κs = search needs
-
-on-line-requires : tie.Need-on-line-requires
-on-line-requires c κs = search needs
-
-is-bad-requires : tie.Need-is-bad-requires
-is-bad-requires c κs = search needs
-
-no-head-requires : tie.Need-no-head-requires
-no-head-requires c κs = search needs
-
 returns : tie.Need-returns
 returns c =
     let c4 = c .before .before .before .before in
@@ -42,18 +24,6 @@ kind-line-requires c κs =
     let number = number-leads t noJob 0 (omega arith) (c4 .number-line .ensures) (c .before .before .on-line .ensures)
     (c .before .before .before .job-line-number .ensures) in
     leads-inside _ _ number
-
-job-line-number-requires-2 : tie.Need-job-line-number-requires-2
-job-line-number-requires-2 c κs = search needs
-
-on-line-requires-2 : tie.Need-on-line-requires-2
-on-line-requires-2 c κs = search needs
-
-is-bad-requires-2 : tie.Need-is-bad-requires-2
-is-bad-requires-2 c κs = search needs
-
-no-head-requires-2 : tie.Need-no-head-requires-2
-no-head-requires-2 c κs = search needs
 
 returns-2 : tie.Need-returns-2
 returns-2 c =
@@ -83,12 +53,6 @@ unknowns-line-requires c κs =
     (c .before .before .before .job-line-number2 .ensures)) in
     leads-inside _ _ kind
 
-job-line-number-requires-3 : tie.Need-job-line-number-requires-3
-job-line-number-requires-3 c κs = search needs
-
-on-line-requires-3 : tie.Need-on-line-requires-3
-on-line-requires-3 c κs = search needs
-
 returns-3 : tie.Need-returns-3
 returns-3 c =
     let c4 = c .before .before .before .before in
@@ -111,21 +75,7 @@ returns-3 c =
 pub head-at-spec : {M : Type 1} → statement M
 head-at-spec =
     tie.close
-    (tie.spec
-    zero-head-requires
-    number-line-requires
-    job-line-number-requires
-    on-line-requires
-    is-bad-requires
-    no-head-requires
-    returns
-    kind-line-requires
-    job-line-number-requires-2
-    on-line-requires-2
-    is-bad-requires-2
-    no-head-requires-2
-    returns-2
-    unknowns-line-requires
-    job-line-number-requires-3
-    on-line-requires-3
-    returns-3)
+    (tie.spec (λ c κs. search needs) (λ c κs. search needs) (λ c κs. search needs) (λ c κs. search needs)
+    (λ c κs. search needs) (λ c κs. search needs) returns kind-line-requires (λ c κs. search needs)
+    (λ c κs. search needs) (λ c κs. search needs) (λ c κs. search needs) returns-2 unknowns-line-requires
+    (λ c κs. search needs) (λ c κs. search needs) returns-3)

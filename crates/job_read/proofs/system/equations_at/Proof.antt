@@ -16,9 +16,6 @@ Inv-loop text from head n eqs₀ a₀ i₀ eqs a i =
 abbrev μ-loop : tie.MeasureT-loop
 μ-loop text from head n eqs₀ a₀ i₀ eqs a i = head .n - i
 
-zero-equation-requires : tie.Need-zero-equation-requires Inv-loop μ-loop
-zero-equation-requires c κs = search needs
-
 loop-holds : tie.Need-loop-holds Inv-loop μ-loop
 loop-holds c =
     rw (c .zero-equation .ensures)
@@ -26,18 +23,6 @@ loop-holds c =
 
 equation-line-requires : tie.Need-equation-line-requires Inv-loop μ-loop
 equation-line-requires c κs = (c .before .loop .inv .1 .inside, c .before .before .before .before .pre .1 .few)
-
-job-line-number-requires : tie.Need-job-line-number-requires Inv-loop μ-loop
-job-line-number-requires c κs = search needs
-
-on-line-requires : tie.Need-on-line-requires Inv-loop μ-loop
-on-line-requires c κs = search needs
-
-is-bad-requires : tie.Need-is-bad-requires Inv-loop μ-loop
-is-bad-requires c κs = search needs
-
-no-system-requires : tie.Need-no-system-requires Inv-loop μ-loop
-no-system-requires c κs = search needs
 
 returns : tie.Need-returns Inv-loop μ-loop
 returns c =
@@ -48,18 +33,6 @@ returns c =
     (c .before .before .before .on-line .ensures)
     (c4 .job-line-number .ensures) (sym (c .before .before .is-bad .ensures) ∙ c .before .if1 .taken)
     (c .no-system .ensures)
-
-mul-eqs : tie.Need-mul-eqs Inv-loop μ-loop
-mul-eqs c = search needs
-
-array-set-from-eqs : tie.Need-array-set-from-eqs Inv-loop μ-loop
-array-set-from-eqs c = search needs
-
-add-i : tie.Need-add-i Inv-loop μ-loop
-add-i c = search needs
-
-loop-less : tie.Need-loop-less Inv-loop μ-loop
-loop-less c = search needs
 
 loop-again : tie.Need-loop-again Inv-loop μ-loop
 loop-again c =
@@ -72,9 +45,6 @@ loop-again c =
           (c4 .job-line-number .ensures) (sym (c .before .before .is-bad .ensures) ∙ c .before .if1 .left),
     )
 
-zero-row-requires : tie.Need-zero-row-requires Inv-loop μ-loop
-zero-row-requires c κs = search needs
-
 returns-2 : tie.Need-returns-2 Inv-loop μ-loop
 returns-2 c =
     rw (c .zero-row .ensures) (walked-done _ _ _ (c .before .before .loop .inv .1) (c .before .loop-test .left))
@@ -82,21 +52,6 @@ returns-2 c =
 pub equations-at-spec : {M : Type 1} → statement M
 equations-at-spec =
     tie.close
-    (tie.spec
-    Inv-loop
-    μ-loop
-    zero-equation-requires
-    loop-holds
-    equation-line-requires
-    job-line-number-requires
-    on-line-requires
-    is-bad-requires
-    no-system-requires
-    returns
-    mul-eqs
-    array-set-from-eqs
-    add-i
-    loop-less
-    loop-again
-    zero-row-requires
-    returns-2)
+    (tie.spec Inv-loop μ-loop (λ c κs. search needs) loop-holds equation-line-requires (λ c κs. search needs)
+    (λ c κs. search needs) (λ c κs. search needs) (λ c κs. search needs) returns (λ c. search needs) (λ c. search needs)
+    (λ c. search needs) (λ c. search needs) loop-again (λ c κs. search needs) returns-2)

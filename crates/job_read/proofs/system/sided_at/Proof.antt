@@ -18,9 +18,6 @@ Inv-loop text from head n rows₀ right₀ a₀ i₀ rows right a i =
 abbrev μ-loop : tie.MeasureT-loop
 μ-loop text from head n rows₀ right₀ a₀ i₀ rows right a i = head .n - i
 
-zero-row-requires : tie.Need-zero-row-requires Inv-loop μ-loop
-zero-row-requires c κs = search needs
-
 loop-holds : tie.Need-loop-holds Inv-loop μ-loop
 loop-holds c =
     rw (c .zero-row .ensures)
@@ -28,18 +25,6 @@ loop-holds c =
 
 sided-line-requires : tie.Need-sided-line-requires Inv-loop μ-loop
 sided-line-requires c κs = (c .before .loop .inv .1 .inside, c .before .before .before .before .pre .1 .few)
-
-job-line-number-requires : tie.Need-job-line-number-requires Inv-loop μ-loop
-job-line-number-requires c κs = search needs
-
-on-line-requires : tie.Need-on-line-requires Inv-loop μ-loop
-on-line-requires c κs = search needs
-
-is-bad-requires : tie.Need-is-bad-requires Inv-loop μ-loop
-is-bad-requires c κs = search needs
-
-no-system-requires : tie.Need-no-system-requires Inv-loop μ-loop
-no-system-requires c κs = search needs
 
 returns : tie.Need-returns Inv-loop μ-loop
 returns c =
@@ -50,24 +35,6 @@ returns c =
     (c .before .before .before .on-line .ensures)
     (c4 .job-line-number .ensures) (sym (c .before .before .is-bad .ensures) ∙ c .before .if1 .taken)
     (c .no-system .ensures)
-
-mul-rows : tie.Need-mul-rows Inv-loop μ-loop
-mul-rows c = search needs
-
-array-set-from-rows : tie.Need-array-set-from-rows Inv-loop μ-loop
-array-set-from-rows c = search needs
-
-mul-right : tie.Need-mul-right Inv-loop μ-loop
-mul-right c = search needs
-
-array-set-from-right : tie.Need-array-set-from-right Inv-loop μ-loop
-array-set-from-right c = search needs
-
-add-i : tie.Need-add-i Inv-loop μ-loop
-add-i c = search needs
-
-loop-less : tie.Need-loop-less Inv-loop μ-loop
-loop-less c = search needs
 
 loop-again : tie.Need-loop-again Inv-loop μ-loop
 loop-again c =
@@ -82,9 +49,6 @@ loop-again c =
           (sym (c .before .before .before .is-bad .ensures) ∙ c .before .before .if1 .left),
     )
 
-zero-equation-requires : tie.Need-zero-equation-requires Inv-loop μ-loop
-zero-equation-requires c κs = search needs
-
 returns-2 : tie.Need-returns-2 Inv-loop μ-loop
 returns-2 c =
     rw (c .zero-equation .ensures) (walked-done _ _ _ (c .before .before .loop .inv .1) (c .before .loop-test .left))
@@ -92,23 +56,7 @@ returns-2 c =
 pub sided-at-spec : {M : Type 1} → statement M
 sided-at-spec =
     tie.close
-    (tie.spec
-    Inv-loop
-    μ-loop
-    zero-row-requires
-    loop-holds
-    sided-line-requires
-    job-line-number-requires
-    on-line-requires
-    is-bad-requires
-    no-system-requires
-    returns
-    mul-rows
-    array-set-from-rows
-    mul-right
-    array-set-from-right
-    add-i
-    loop-less
-    loop-again
-    zero-equation-requires
+    (tie.spec Inv-loop μ-loop (λ c κs. search needs) loop-holds sided-line-requires (λ c κs. search needs)
+    (λ c κs. search needs) (λ c κs. search needs) (λ c κs. search needs) returns (λ c. search needs) (λ c. search needs)
+    (λ c. search needs) (λ c. search needs) (λ c. search needs) (λ c. search needs) loop-again (λ c κs. search needs)
     returns-2)

@@ -28,9 +28,6 @@ mul-m c = omega (arith, square-fits (c .args .n) (c .pre .1))
 loop-holds : tie.Need-loop-holds Inv-loop μ-loop
 loop-holds c = (omega arith, tab-none (pos 0) placesMax _)
 
-div-row : tie.Need-div-row Inv-loop μ-loop
-div-row c = search needs
-
 mul-row : tie.Need-mul-row Inv-loop μ-loop
 mul-row c =
     let p = c .before .before .pre in
@@ -40,9 +37,6 @@ array-copy-out-row : tie.Need-array-copy-out-row Inv-loop μ-loop
 array-copy-out-row c =
     let p = c .before .before .pre in
     omega (arith, line-live _ (p .0) (p .1) (c .before .loop .k) (c .loop-test .taken), p .1)
-
-rem-all : tie.Need-rem-all Inv-loop μ-loop
-rem-all c = search needs
 
 mul-all : tie.Need-mul-all Inv-loop μ-loop
 mul-all c =
@@ -69,9 +63,6 @@ add-k c =
     let start = c .before .before .before .before .before in
     omega (arith, square-fits (start .args .n) (start .pre .1), c .before .before .before .loop-test .taken)
 
-loop-less : tie.Need-loop-less Inv-loop μ-loop
-loop-less c = search needs
-
 loop-again : tie.Need-loop-again Inv-loop μ-loop
 unfolding entryOf
 loop-again c =
@@ -92,20 +83,5 @@ returns c = tab-done (pos 0) placesMax _ (c .before .loop .inv .0) (c .loop-test
 pub entries-spec : {M : Type 1} → statement M
 entries-spec =
     tie.close
-    (tie.spec
-    Inv-loop
-    μ-loop
-    mul-m
-    loop-holds
-    div-row
-    mul-row
-    array-copy-out-row
-    rem-all
-    mul-all
-    array-copy-out-all
-    mul-all-2
-    array-set-from-all
-    add-k
-    loop-less
-    loop-again
-    returns)
+    (tie.spec Inv-loop μ-loop mul-m loop-holds (λ c. search needs) mul-row array-copy-out-row (λ c. search needs)
+    mul-all array-copy-out-all mul-all-2 array-set-from-all add-k (λ c. search needs) loop-again returns)

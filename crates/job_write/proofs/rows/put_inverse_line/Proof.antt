@@ -9,9 +9,6 @@ use Rattle.job_write.proofs.rows.put_inverse_line.Tie as tie
 entries-requires : tie.Need-entries-requires
 entries-requires c κs = (c .before .pre .some, c .before .pre .few)
 
-slice-aggregate-put-list-line : tie.Need-slice-aggregate-put-list-line
-slice-aggregate-put-list-line c = search needs
-
 mul-all : tie.Need-mul-all
 mul-all c = omega (arith, square-fits _ (c .before .before .before .before .pre .few))
 
@@ -34,9 +31,6 @@ put-list-line-requires c κs =
       matrix-within n (start .pre .some) few rows (start .pre .entries),
     )
 
-same-length : tie.Need-same-length
-same-length c = search needs
-
 returns : tie.Need-returns
 returns c =
     let made = c .before .before .before .before .before .before in
@@ -47,12 +41,5 @@ returns c =
 pub put-inverse-line-spec : {M : Type 1} → statement M
 put-inverse-line-spec =
     tie.close
-    (tie.spec
-    entries-requires
-    slice-aggregate-put-list-line
-    mul-all
-    array-share-prefix-all
-    slice-aggregate-put-list-line-2
-    put-list-line-requires
-    same-length
-    returns)
+    (tie.spec entries-requires (λ c. search needs) mul-all array-share-prefix-all slice-aggregate-put-list-line-2
+    put-list-line-requires (λ c. search needs) returns)

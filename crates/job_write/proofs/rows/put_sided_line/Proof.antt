@@ -15,14 +15,8 @@ use Rattle.job_write.proofs.Matrix.{sided-parts}
 use Rattle.job_write.proofs.rows.put_sided_line.Statement.{statement}
 use Rattle.job_write.proofs.rows.put_sided_line.Tie as tie
 
-slice-aggregate-put-bytes : tie.Need-slice-aggregate-put-bytes
-slice-aggregate-put-bytes c = search needs
-
 put-bytes-requires : tie.Need-put-bytes-requires
 put-bytes-requires c κs = omega (arith, c .before .before .before .pre .room)
-
-array-share-prefix-row : tie.Need-array-share-prefix-row
-array-share-prefix-row c = search needs
 
 slice-aggregate-put-list : tie.Need-slice-aggregate-put-list
 slice-aggregate-put-list c =
@@ -102,9 +96,6 @@ put-byte-requires-2 c κs =
       start .pre .few,
     )
 
-same-length : tie.Need-same-length
-same-length c = search needs
-
 returns : tie.Need-returns
 unfolding line
 returns c =
@@ -127,14 +118,5 @@ returns c =
 pub put-sided-line-spec : {M : Type 1} → statement M
 put-sided-line-spec =
     tie.close
-    (tie.spec
-    slice-aggregate-put-bytes
-    put-bytes-requires
-    array-share-prefix-row
-    slice-aggregate-put-list
-    put-list-requires
-    put-byte-requires
-    put-number-requires
-    put-byte-requires-2
-    same-length
-    returns)
+    (tie.spec (λ c. search needs) put-bytes-requires (λ c. search needs) slice-aggregate-put-list put-list-requires
+    put-byte-requires put-number-requires put-byte-requires-2 (λ c. search needs) returns)

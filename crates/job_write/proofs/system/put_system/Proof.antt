@@ -41,12 +41,6 @@ put-system-line-requires c κs =
       room = omega (arith, l .inv .wrote .next, system-grows j (l .i) (j .head .n) (l .inv .live), start .pre .room);
     }
 
-add-i : tie.Need-add-i Inv-loop μ-loop
-add-i c = search needs
-
-loop-less : tie.Need-loop-less Inv-loop μ-loop
-loop-less c = search needs
-
 loop-again : tie.Need-loop-again Inv-loop μ-loop
 loop-again c =
     let j = c .before .before .before .before .before .before .before .args .j in
@@ -70,13 +64,5 @@ returns c =
 pub put-system-spec : {M : Type 1} → statement M
 put-system-spec =
     tie.close
-    (tie.spec
-    Inv-loop
-    μ-loop
-    loop-holds
-    put-system-line-requires
-    add-i
-    loop-less
-    loop-again
-    same-length
-    returns)
+    (tie.spec Inv-loop μ-loop loop-holds put-system-line-requires (λ c. search needs) (λ c. search needs) loop-again
+    same-length returns)

@@ -14,15 +14,6 @@ use Rattle.job_write.proofs.Parts.{kind-good}
 use Rattle.job_write.proofs.system.put_system_line.Statement.{statement}
 use Rattle.job_write.proofs.system.put_system_line.Tie as tie
 
-enum-told : tie.Need-enum-told
-enum-told c = search needs
-
-mul-q : tie.Need-mul-q
-mul-q c = search needs
-
-element-copy-out-q : tie.Need-element-copy-out-q
-element-copy-out-q c = search needs
-
 put-equation-line-requires : tie.Need-put-equation-line-requires
 put-equation-line-requires c κs =
     let start = c .before .before .before .before .before .before .before in
@@ -33,21 +24,6 @@ put-equation-line-requires c κs =
       good = kind-good (start .args .j) (start .args .i) (c .before .before .enum-told .given .1)
           (a .system (start .args .i) (start .pre .live));
     }
-
-enum-told-2 : tie.Need-enum-told-2
-enum-told-2 c = search needs
-
-mul-row : tie.Need-mul-row
-mul-row c = search needs
-
-element-copy-out-row : tie.Need-element-copy-out-row
-element-copy-out-row c = search needs
-
-mul-put-sided-line : tie.Need-mul-put-sided-line
-mul-put-sided-line c = search needs
-
-array-copy-out-put-sided-line : tie.Need-array-copy-out-put-sided-line
-array-copy-out-put-sided-line c = search needs
 
 put-sided-line-requires : tie.Need-put-sided-line-requires
 put-sided-line-requires c κs =
@@ -66,18 +42,6 @@ put-sided-line-requires c κs =
       side = rw (toZ-ofZ e) (good .1);
     }
 
-enum-told-3 : tie.Need-enum-told-3
-enum-told-3 c = search needs
-
-mul-row-2 : tie.Need-mul-row-2
-mul-row-2 c = search needs
-
-element-copy-out-row-2 : tie.Need-element-copy-out-row-2
-element-copy-out-row-2 c = search needs
-
-slice-aggregate-put-row-line : tie.Need-slice-aggregate-put-row-line
-slice-aggregate-put-row-line c = search needs
-
 put-row-line-requires : tie.Need-put-row-line-requires
 put-row-line-requires c κs =
     let start = c .before .before .before .before .before .before .before .before .before in
@@ -91,17 +55,11 @@ put-row-line-requires c κs =
           (kind-good j i (c .before .before .before .before .enum-told3 .given .1) (a .system i (start .pre .live)));
     }
 
-same-length : tie.Need-same-length
-same-length c = search needs
-
 returns : tie.Need-returns
 unfolding systemText
 returns c =
     let wrote = c .before .before in
     rw (wrote .before .before .before .enum-told .given .1) (wrote .put-equation-line .ensures)
-
-same-length-2 : tie.Need-same-length-2
-same-length-2 c = search needs
 
 returns-2 : tie.Need-returns-2
 unfolding systemText
@@ -112,9 +70,6 @@ returns-2 c =
     let e : SFits w64 (getD (start .args .j .system .right) (start .args .i) (pos 0)) = search needs in
     rw (told .enum-told2 .given .1, ← toZ-ofZ e) (wrote .put-sided-line .ensures)
 
-same-length-3 : tie.Need-same-length-3
-same-length-3 c = search needs
-
 returns-3 : tie.Need-returns-3
 unfolding systemText
 returns-3 c =
@@ -124,25 +79,7 @@ returns-3 c =
 pub put-system-line-spec : {M : Type 1} → statement M
 put-system-line-spec =
     tie.close
-    (tie.spec
-    enum-told
-    mul-q
-    element-copy-out-q
-    put-equation-line-requires
-    enum-told-2
-    mul-row
-    element-copy-out-row
-    mul-put-sided-line
-    array-copy-out-put-sided-line
-    put-sided-line-requires
-    enum-told-3
-    mul-row-2
-    element-copy-out-row-2
-    slice-aggregate-put-row-line
-    put-row-line-requires
-    same-length
-    returns
-    same-length-2
-    returns-2
-    same-length-3
-    returns-3)
+    (tie.spec (λ c. search needs) (λ c. search needs) (λ c. search needs) put-equation-line-requires (λ c. search needs)
+    (λ c. search needs) (λ c. search needs) (λ c. search needs) (λ c. search needs) put-sided-line-requires
+    (λ c. search needs) (λ c. search needs) (λ c. search needs) (λ c. search needs) put-row-line-requires
+    (λ c. search needs) returns (λ c. search needs) returns-2 (λ c. search needs) returns-3)

@@ -7,15 +7,10 @@ use Rattle.jobs.proofs.CheckLaws.{count-fine}
 use Rattle.jobs.proofs.check_result.counted_check.Statement.{statement}
 use Rattle.jobs.proofs.check_result.counted_check.Tie as tie
 
-count-check-requires : tie.Need-count-check-requires
-count-check-requires c κs = search needs
-
-is-fine-requires : tie.Need-is-fine-requires
-is-fine-requires c κs = search needs
-
 low-check-requires : tie.Need-low-check-requires
 low-check-requires c κs =
-    count-fine _ (sym (c .before .before .count-check .ensures) ∙ is-fine _ (sym (c .before .is-fine .ensures) ∙ c .if1 .taken)) .1
+    count-fine _ (sym (c .before .before .count-check .ensures)
+    ∙ is-fine _ (sym (c .before .is-fine .ensures) ∙ c .if1 .taken)) .1
 
 returns : tie.Need-returns
 unfolding countedCheck
@@ -27,8 +22,10 @@ returns c =
 returns-2 : tie.Need-returns-2
 unfolding countedCheck
 returns-2 c =
-    rw (← c .before .before .count-check .ensures) (sym (not-fine _ _ (sym (c .before .is-fine .ensures) ∙ c .if1 .left)))
+    rw (← c .before .before .count-check .ensures)
+    (sym (not-fine _ _ (sym (c .before .is-fine .ensures) ∙ c .if1 .left)))
 
 pub counted-check-spec : {M : Type 1} → statement M
 counted-check-spec =
-    tie.close (tie.spec count-check-requires is-fine-requires low-check-requires returns returns-2)
+    tie.close
+    (tie.spec (λ c κs. search needs) (λ c κs. search needs) low-check-requires returns returns-2)

@@ -1,4 +1,5 @@
--- `checks::check_job` meets its contract. Where the head is right, n is at most its limit, which the other lines rely on.
+-- `checks::check_job` meets its contract. Where the head is right, n is at most its limit, which the other lines rely
+-- on.
 use borrow.Author.Needs.{needs}
 use mathlib.Core.Path.{sym, _∙_}
 use Rattle.faults.proofs.Laws.{not-bad, bad-first, good-first, done-next, fine-line}
@@ -7,29 +8,27 @@ use Rattle.jobs.proofs.CheckLaws.{unknowns-fine}
 use Rattle.jobs.proofs.checks.check_job.Statement.{statement}
 use Rattle.jobs.proofs.checks.check_job.Tie as tie
 
-head-lines-requires : tie.Need-head-lines-requires
-head-lines-requires c κs = search needs
-
-is-bad-requires : tie.Need-is-bad-requires
-is-bad-requires c κs = search needs
-
 returns : tie.Need-returns
 unfolding checkJob
 returns c =
-    rw (← c .before .before .head-lines .ensures) (sym (bad-first _ _ (sym (c .before .is-bad .ensures) ∙ c .if1 .taken)))
+    rw (← c .before .before .head-lines .ensures)
+    (sym (bad-first _ _ (sym (c .before .is-bad .ensures) ∙ c .if1 .taken)))
 
 body-lines-requires : tie.Need-body-lines-requires
 unfolding headLines jobLineStatus lineCheck
 body-lines-requires c κs =
-    let done = sym (c .before .before .head-lines .ensures) ∙ not-bad _ (sym (c .before .is-bad .ensures) ∙ c .if1 .left) in
+    let done =
+    sym (c .before .before .head-lines .ensures) ∙ not-bad _ (sym (c .before .is-bad .ensures) ∙ c .if1 .left) in
     unknowns-fine _ (fine-line _ _ (done-next _ _ (done-next _ _ done))) .1
 
 returns-2 : tie.Need-returns-2
 unfolding checkJob
 returns-2 c =
     rw (← c .before .before .before .head-lines .ensures)
-    (c .body-lines .ensures ∙ sym (good-first _ _ (not-bad _ (sym (c .before .before .is-bad .ensures) ∙ c .before .if1 .left))))
+    (c .body-lines .ensures
+    ∙ sym (good-first _ _ (not-bad _ (sym (c .before .before .is-bad .ensures) ∙ c .before .if1 .left))))
 
 pub check-job-spec : {M : Type 1} → statement M
 check-job-spec =
-    tie.close (tie.spec head-lines-requires is-bad-requires returns body-lines-requires returns-2)
+    tie.close
+    (tie.spec (λ c κs. search needs) (λ c κs. search needs) returns body-lines-requires returns-2)

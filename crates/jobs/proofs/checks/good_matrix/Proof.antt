@@ -22,29 +22,18 @@ loop-holds : tie.Need-loop-holds Inv-loop μ-loop
 unfolding allB
 loop-holds c = (omega arith, refl)
 
-mul-row : tie.Need-mul-row Inv-loop μ-loop
-mul-row c = search needs
-
-array-copy-out-row : tie.Need-array-copy-out-row Inv-loop μ-loop
-array-copy-out-row c = search needs
-
-all-within-requires : tie.Need-all-within-requires Inv-loop μ-loop
-all-within-requires c κs = search needs
-
 returns : tie.Need-returns Inv-loop μ-loop
 unfolding goodMatrix
 returns c =
-    sym (all-stop _ _ _ (c .before .before .before .before .loop-test .taken) (sym (c .before .all-within .ensures) ∙ not-true _ (c .if1 .taken)))
-
-add-i : tie.Need-add-i Inv-loop μ-loop
-add-i c = search needs
-
-loop-less : tie.Need-loop-less Inv-loop μ-loop
-loop-less c = search needs
+    sym (all-stop _ _ _ (c .before .before .before .before .loop-test .taken)
+    (sym (c .before .all-within .ensures) ∙ not-true _ (c .if1 .taken)))
 
 loop-again : tie.Need-loop-again Inv-loop μ-loop
-loop-again c =
-    (omega arith, all-more _ _ (c .before .before .before .before .before .loop .inv .1) (sym (c .before .all-within .ensures) ∙ not-false _ (c .if1 .left)))
+loop-again c = (
+  omega arith,
+  all-more _ _ (c .before .before .before .before .before .loop .inv .1)
+      (sym (c .before .all-within .ensures) ∙ not-false _ (c .if1 .left)),
+)
 
 returns-2 : tie.Need-returns-2 Inv-loop μ-loop
 unfolding goodMatrix
@@ -53,15 +42,5 @@ returns-2 c = sym (all-done _ (c .before .loop .inv .0) (c .loop-test .left) (c 
 pub good-matrix-spec : {M : Type 1} → statement M
 good-matrix-spec =
     tie.close
-    (tie.spec
-    Inv-loop
-    μ-loop
-    loop-holds
-    mul-row
-    array-copy-out-row
-    all-within-requires
-    returns
-    add-i
-    loop-less
-    loop-again
-    returns-2)
+    (tie.spec Inv-loop μ-loop loop-holds (λ c. search needs) (λ c. search needs) (λ c κs. search needs) returns
+    (λ c. search needs) (λ c. search needs) loop-again returns-2)

@@ -4,15 +4,9 @@ use Rattle.jobs.specs.Checks.{inverseCheck}
 use Rattle.jobs.proofs.checks.inverse_check.Statement.{statement}
 use Rattle.jobs.proofs.checks.inverse_check.Tie as tie
 
-good-matrix-requires : tie.Need-good-matrix-requires
-good-matrix-requires c κs = search needs
-
-bad-unless-requires : tie.Need-bad-unless-requires
-bad-unless-requires c κs = search needs
-
 returns : tie.Need-returns
 unfolding inverseCheck
 returns c = rw (← c .before .good-matrix .ensures) (c .bad-unless .ensures)
 
 pub inverse-check-spec : {M : Type 1} → statement M
-inverse-check-spec = tie.close (tie.spec good-matrix-requires bad-unless-requires returns)
+inverse-check-spec = tie.close (tie.spec (λ c κs. search needs) (λ c κs. search needs) returns)

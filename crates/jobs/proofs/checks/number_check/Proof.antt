@@ -4,12 +4,9 @@ use Rattle.jobs.specs.Checks.{numberCheck}
 use Rattle.jobs.proofs.checks.number_check.Statement.{statement}
 use Rattle.jobs.proofs.checks.number_check.Tie as tie
 
-bad-unless-requires : tie.Need-bad-unless-requires
-bad-unless-requires c κs = search needs
-
 returns : tie.Need-returns
 unfolding numberCheck
 returns c = c .bad-unless .ensures
 
 pub number-check-spec : {M : Type 1} → statement M
-number-check-spec = tie.close (tie.spec bad-unless-requires returns)
+number-check-spec = tie.close (tie.spec (λ c κs. search needs) returns)

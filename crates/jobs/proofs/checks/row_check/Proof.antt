@@ -4,15 +4,9 @@ use Rattle.jobs.specs.Checks.{rowCheck}
 use Rattle.jobs.proofs.checks.row_check.Statement.{statement}
 use Rattle.jobs.proofs.checks.row_check.Tie as tie
 
-all-within-requires : tie.Need-all-within-requires
-all-within-requires c κs = search needs
-
-bad-unless-requires : tie.Need-bad-unless-requires
-bad-unless-requires c κs = search needs
-
 returns : tie.Need-returns
 unfolding rowCheck
 returns c = rw (← c .before .all-within .ensures) (c .bad-unless .ensures)
 
 pub row-check-spec : {M : Type 1} → statement M
-row-check-spec = tie.close (tie.spec all-within-requires bad-unless-requires returns)
+row-check-spec = tie.close (tie.spec (λ c κs. search needs) (λ c κs. search needs) returns)

@@ -4,12 +4,9 @@ use Rattle.jobs.specs.Checks.{stepsCheck}
 use Rattle.jobs.proofs.checks.steps_check.Statement.{statement}
 use Rattle.jobs.proofs.checks.steps_check.Tie as tie
 
-bad-unless-requires : tie.Need-bad-unless-requires
-bad-unless-requires c κs = search needs
-
 returns : tie.Need-returns
 unfolding stepsCheck
 returns c = c .bad-unless .ensures
 
 pub steps-check-spec : {M : Type 1} → statement M
-steps-check-spec = tie.close (tie.spec bad-unless-requires returns)
+steps-check-spec = tie.close (tie.spec (λ c κs. search needs) returns)

@@ -20,24 +20,13 @@ abbrev μ-loop : tie.MeasureT-loop
 loop-holds : tie.Need-loop-holds Inv-loop μ-loop
 loop-holds c = (omega arith, lines-none _)
 
-system-line-requires : tie.Need-system-line-requires Inv-loop μ-loop
-system-line-requires c κs = search needs
-
-is-bad-requires : tie.Need-is-bad-requires Inv-loop μ-loop
-is-bad-requires c κs = search needs
-
 returns : tie.Need-returns Inv-loop μ-loop
 unfolding systemLines
 returns c =
     c .before .before .system-line .ensures
-    ∙ sym (lines-stop _ _ _ (c .before .before .before .loop-test .taken) (c .before .before .before .before .loop .inv .1)
+    ∙ sym (lines-stop _ _ _ (c .before .before .before .loop-test .taken)
+    (c .before .before .before .before .loop .inv .1)
     (ap isBad (sym (c .before .before .system-line .ensures)) ∙ sym (c .before .is-bad .ensures) ∙ c .if1 .taken))
-
-add-i : tie.Need-add-i Inv-loop μ-loop
-add-i c = search needs
-
-loop-less : tie.Need-loop-less Inv-loop μ-loop
-loop-less c = search needs
 
 loop-again : tie.Need-loop-again Inv-loop μ-loop
 loop-again c = (
@@ -53,14 +42,5 @@ returns-2 c = sym (lines-done _ (c .before .loop .inv .0) (c .loop-test .left) (
 pub system-lines-spec : {M : Type 1} → statement M
 system-lines-spec =
     tie.close
-    (tie.spec
-    Inv-loop
-    μ-loop
-    loop-holds
-    system-line-requires
-    is-bad-requires
-    returns
-    add-i
-    loop-less
-    loop-again
-    returns-2)
+    (tie.spec Inv-loop μ-loop loop-holds (λ c κs. search needs) (λ c κs. search needs) returns (λ c. search needs)
+    (λ c. search needs) loop-again returns-2)

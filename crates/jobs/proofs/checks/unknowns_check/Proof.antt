@@ -4,15 +4,9 @@ use Rattle.jobs.specs.Checks.{unknownsCheck}
 use Rattle.jobs.proofs.checks.unknowns_check.Statement.{statement}
 use Rattle.jobs.proofs.checks.unknowns_check.Tie as tie
 
-good-unknowns-requires : tie.Need-good-unknowns-requires
-good-unknowns-requires c κs = search needs
-
-bad-unless-requires : tie.Need-bad-unless-requires
-bad-unless-requires c κs = search needs
-
 returns : tie.Need-returns
 unfolding unknownsCheck
 returns c = rw (← c .before .good-unknowns .ensures) (c .bad-unless .ensures)
 
 pub unknowns-check-spec : {M : Type 1} → statement M
-unknowns-check-spec = tie.close (tie.spec good-unknowns-requires bad-unless-requires returns)
+unknowns-check-spec = tie.close (tie.spec (λ c κs. search needs) (λ c κs. search needs) returns)

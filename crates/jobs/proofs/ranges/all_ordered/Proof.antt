@@ -27,40 +27,30 @@ loop-holds : tie.Need-loop-holds Inv-loop μ-loop
 unfolding allB
 loop-holds c = (omega arith, refl)
 
-mul-if1 : tie.Need-mul-if1 Inv-loop μ-loop
-mul-if1 c = search needs
-
-array-copy-out-if1 : tie.Need-array-copy-out-if1 Inv-loop μ-loop
-array-copy-out-if1 c = search needs
-
-mul-if1-2 : tie.Need-mul-if1-2 Inv-loop μ-loop
-mul-if1-2 c = search needs
-
-array-copy-out-if1-2 : tie.Need-array-copy-out-if1-2 Inv-loop μ-loop
-array-copy-out-if1-2 c = search needs
-
 returns : tie.Need-returns Inv-loop μ-loop
 unfolding allOrdered
 returns c =
-    let a = getD (c .before .before .before .before .before .args .t1) (c .before .before .before .before .loop .i) (pos 0) in
-    let b = getD (c .before .before .before .before .before .args .t2) (c .before .before .before .before .loop .i) (pos 0) in
+    let a = getD (c .before .before .before .before .before .args .t1)
+    (c .before .before .before .before .loop .i) (pos 0) in
+    let b = getD (c .before .before .before .before .before .args .t2)
+    (c .before .before .before .before .loop .i) (pos 0) in
     let l : SFits w64 a = search needs in
     let h : SFits w64 b = search needs in
-    sym (all-stop _ _ _ (c .before .before .before .loop-test .taken) (lt-leZ a b (ltZ-true b a (rw (toZ-ofZ l, toZ-ofZ h) at (c .if1 .taken)))))
-
-add-i : tie.Need-add-i Inv-loop μ-loop
-add-i c = search needs
-
-loop-less : tie.Need-loop-less Inv-loop μ-loop
-loop-less c = search needs
+    sym (all-stop _ _ _ (c .before .before .before .loop-test .taken)
+    (lt-leZ a b (ltZ-true b a (rw (toZ-ofZ l, toZ-ofZ h) at (c .if1 .taken)))))
 
 loop-again : tie.Need-loop-again Inv-loop μ-loop
 loop-again c =
-    let a = getD (c .before .before .before .before .before .args .t1) (c .before .before .before .before .loop .i) (pos 0) in
-    let b = getD (c .before .before .before .before .before .args .t2) (c .before .before .before .before .loop .i) (pos 0) in
+    let a = getD (c .before .before .before .before .before .args .t1)
+    (c .before .before .before .before .loop .i) (pos 0) in
+    let b = getD (c .before .before .before .before .before .args .t2)
+    (c .before .before .before .before .loop .i) (pos 0) in
     let l : SFits w64 a = search needs in
-    let h : SFits w64 b = search needs in
-    (omega arith, all-more _ _ (c .before .before .before .before .loop .inv .1) (le-leZ a b (ltZ-false b a (rw (toZ-ofZ l, toZ-ofZ h) at (c .if1 .left)))))
+    let h : SFits w64 b = search needs in (
+      omega arith,
+      all-more _ _ (c .before .before .before .before .loop .inv .1)
+          (le-leZ a b (ltZ-false b a (rw (toZ-ofZ l, toZ-ofZ h) at (c .if1 .left)))),
+    )
 
 returns-2 : tie.Need-returns-2 Inv-loop μ-loop
 unfolding allOrdered
@@ -69,16 +59,5 @@ returns-2 c = sym (all-done _ (c .before .loop .inv .0) (c .loop-test .left) (c 
 pub all-ordered-spec : {M : Type 1} → statement M
 all-ordered-spec =
     tie.close
-    (tie.spec
-    Inv-loop
-    μ-loop
-    loop-holds
-    mul-if1
-    array-copy-out-if1
-    mul-if1-2
-    array-copy-out-if1-2
-    returns
-    add-i
-    loop-less
-    loop-again
-    returns-2)
+    (tie.spec Inv-loop μ-loop loop-holds (λ c. search needs) (λ c. search needs) (λ c. search needs) (λ c. search needs)
+    returns (λ c. search needs) (λ c. search needs) loop-again returns-2)

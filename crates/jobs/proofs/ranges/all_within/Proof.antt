@@ -26,49 +26,31 @@ loop-holds : tie.Need-loop-holds Inv-loop μ-loop
 unfolding allB
 loop-holds c = (omega arith, refl)
 
-mul-within : tie.Need-mul-within Inv-loop μ-loop
-mul-within c = search needs
-
-array-copy-out-within : tie.Need-array-copy-out-within Inv-loop μ-loop
-array-copy-out-within c = search needs
-
-within-requires : tie.Need-within-requires Inv-loop μ-loop
-within-requires c κs = search needs
-
 returns : tie.Need-returns Inv-loop μ-loop
 unfolding allWithin
 returns c =
-    let e : SFits w64 (getD (c .before .before .before .before .before .args .t1) (c .before .before .before .before .loop .i) (pos 0)) = search needs in
+    let e : SFits w64 (getD (c .before .before .before .before .before .args .t1)
+    (c .before .before .before .before .loop .i) (pos 0)) = search needs in
     sym (all-stop _ _ _ (c .before .before .before .loop-test .taken)
-    (rw (toZ-ofZ e, toZ-ofZ (c .before .before .before .before .before .fits .most)) at (sym (c .before .within .ensures) ∙ not-true _ (c .if1 .taken))))
-
-add-i : tie.Need-add-i Inv-loop μ-loop
-add-i c = search needs
-
-loop-less : tie.Need-loop-less Inv-loop μ-loop
-loop-less c = search needs
+    (rw (toZ-ofZ e, toZ-ofZ (c .before .before .before .before .before .fits .most))
+    at (sym (c .before .within .ensures) ∙ not-true _ (c .if1 .taken))))
 
 loop-again : tie.Need-loop-again Inv-loop μ-loop
 loop-again c =
-    let e : SFits w64 (getD (c .before .before .before .before .before .args .t1) (c .before .before .before .before .loop .i) (pos 0)) = search needs in
-    (omega arith, all-more _ _ (c .before .before .before .before .loop .inv .1) (rw (toZ-ofZ e) at (sym (c .before .within .ensures) ∙ not-false _ (c .if1 .left))))
+    let e : SFits w64 (getD (c .before .before .before .before .before .args .t1)
+    (c .before .before .before .before .loop .i) (pos 0)) = search needs in (
+      omega arith,
+      all-more _ _ (c .before .before .before .before .loop .inv .1)
+          (rw (toZ-ofZ e) at (sym (c .before .within .ensures) ∙ not-false _ (c .if1 .left))),
+    )
 
 returns-2 : tie.Need-returns-2 Inv-loop μ-loop
 unfolding allWithin
-returns-2 c = rw (← toZ-ofZ (c .before .before .fits .most)) (sym (all-done _ (c .before .loop .inv .0) (c .loop-test .left) (c .before .loop .inv .1)))
+returns-2 c = rw (← toZ-ofZ (c .before .before .fits .most))
+    (sym (all-done _ (c .before .loop .inv .0) (c .loop-test .left) (c .before .loop .inv .1)))
 
 pub all-within-spec : {M : Type 1} → statement M
 all-within-spec =
     tie.close
-    (tie.spec
-    Inv-loop
-    μ-loop
-    loop-holds
-    mul-within
-    array-copy-out-within
-    within-requires
-    returns
-    add-i
-    loop-less
-    loop-again
-    returns-2)
+    (tie.spec Inv-loop μ-loop loop-holds (λ c. search needs) (λ c. search needs) (λ c κs. search needs) returns
+    (λ c. search needs) (λ c. search needs) loop-again returns-2)

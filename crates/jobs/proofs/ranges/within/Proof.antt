@@ -32,12 +32,20 @@ sub-if1 : tie.Need-sub-if1
 sub-if1 c = rw (toZ-ofZ (c .fits .most)) (fits-less _ (c .fits .most))
 
 returns : tie.Need-returns
-returns c = below _ _ (rw (toZ-ofZ (c .before .fits .z), toZ-ofZ (c .before .fits .most), toZ-ofZ (fits-less _ (c .before .fits .most))) at (c .if1 .taken))
+returns c = below _ _ (rw (
+  toZ-ofZ (c .before .fits .z),
+  toZ-ofZ (c .before .fits .most),
+  toZ-ofZ (fits-less _ (c .before .fits .most)),
+) at (c .if1 .taken))
 
 returns-2 : tie.Need-returns-2
 returns-2 c =
     rw (toZ-ofZ (c .before .fits .z), toZ-ofZ (c .before .fits .most))
-    (not-below _ _ (rw (toZ-ofZ (c .before .fits .z), toZ-ofZ (c .before .fits .most), toZ-ofZ (fits-less _ (c .before .fits .most))) at (c .if1 .left)))
+    (not-below _ _ (rw (
+      toZ-ofZ (c .before .fits .z),
+      toZ-ofZ (c .before .fits .most),
+      toZ-ofZ (fits-less _ (c .before .fits .most)),
+    ) at (c .if1 .left)))
 
 pub within-spec : {M : Type 1} → statement M
 within-spec = tie.close (tie.spec sub-if1 returns returns-2)

@@ -1,4 +1,5 @@
--- `terms::degree_of` meets its contract. The loop's invariant bounds the sum by 255 for each exponent passed, so that it fits.
+-- `terms::degree_of` meets its contract. The loop's invariant bounds the sum by 255 for each exponent passed, so that
+-- it fits.
 use mathlib.Core.Path.{_≡_}
 use Prim.Native.Nat.{_≤_, _+_, _*_, _-_}
 use native.Mathlib.Omega.{arith}
@@ -21,22 +22,10 @@ abbrev μ-loop : tie.MeasureT-loop
 loop-holds : tie.Need-loop-holds Inv-loop μ-loop
 loop-holds c = (omega arith, omega arith, carry-none _ _)
 
-array-read-sum : tie.Need-array-read-sum Inv-loop μ-loop
-array-read-sum c = search needs
-
-cast-sum : tie.Need-cast-sum Inv-loop μ-loop
-cast-sum c = search needs
-
 add-sum : tie.Need-add-sum Inv-loop μ-loop
 add-sum c =
     let b : Fits w8 (getD (c .before .before .before .args .t .exps) (c .before .loop .k) 0) = search needs in
     omega arith
-
-add-k : tie.Need-add-k Inv-loop μ-loop
-add-k c = search needs
-
-loop-less : tie.Need-loop-less Inv-loop μ-loop
-loop-less c = search needs
 
 loop-again : tie.Need-loop-again Inv-loop μ-loop
 loop-again c =
@@ -50,14 +39,5 @@ returns c = carry-done _ _ (c .before .loop .inv .0) (c .loop-test .left) (c .be
 pub degree-of-spec : {M : Type 1} → statement M
 degree-of-spec =
     tie.close
-    (tie.spec
-    Inv-loop
-    μ-loop
-    loop-holds
-    array-read-sum
-    cast-sum
-    add-sum
-    add-k
-    loop-less
-    loop-again
-    returns)
+    (tie.spec Inv-loop μ-loop loop-holds (λ c. search needs) (λ c. search needs) add-sum (λ c. search needs)
+    (λ c. search needs) loop-again returns)

@@ -24,21 +24,9 @@ Inv-loop q count k₀ k = (k ≤ count) × (allB k (λ i. isWithin (termAt q i .
 abbrev μ-loop : tie.MeasureT-loop
 μ-loop q count k₀ k = count - k
 
-placed-requires : tie.Need-placed-requires Inv-loop μ-loop
-placed-requires c κs = search needs
-
 loop-holds : tie.Need-loop-holds Inv-loop μ-loop
 unfolding allB
 loop-holds c = (omega arith, refl)
-
-mul-t : tie.Need-mul-t Inv-loop μ-loop
-mul-t c = search needs
-
-element-copy-out-t : tie.Need-element-copy-out-t Inv-loop μ-loop
-element-copy-out-t c = search needs
-
-within-requires : tie.Need-within-requires Inv-loop μ-loop
-within-requires c κs = search needs
 
 returns : tie.Need-returns Inv-loop μ-loop
 unfolding goodCoefs
@@ -49,35 +37,22 @@ returns c =
     (sym (all-stop _ _ _ (c .before .before .before .before .loop-test .taken)
     (rw (toZ-ofZ e) at (sym (c .before .within .ensures) ∙ not-true _ (c .if1 .taken)))))
 
-add-k : tie.Need-add-k Inv-loop μ-loop
-add-k c = search needs
-
-loop-less : tie.Need-loop-less Inv-loop μ-loop
-loop-less c = search needs
-
 loop-again : tie.Need-loop-again Inv-loop μ-loop
 loop-again c =
     let turn = c .before .before .before .before .before in
-    let e : SFits w64 (termAt (turn .before .before .args .t1) (turn .loop .k) .coef) = search needs in
-    (omega arith, all-more _ _ (turn .loop .inv .1) (rw (toZ-ofZ e) at (sym (c .before .within .ensures) ∙ not-false _ (c .if1 .left))))
+    let e : SFits w64 (termAt (turn .before .before .args .t1) (turn .loop .k) .coef) = search needs in (
+      omega arith,
+      all-more _ _ (turn .loop .inv .1)
+          (rw (toZ-ofZ e) at (sym (c .before .within .ensures) ∙ not-false _ (c .if1 .left))),
+    )
 
 returns-2 : tie.Need-returns-2 Inv-loop μ-loop
 unfolding goodCoefs
-returns-2 c = rw (← c .before .before .placed .ensures) (sym (all-done _ (c .before .loop .inv .0) (c .loop-test .left) (c .before .loop .inv .1)))
+returns-2 c = rw (← c .before .before .placed .ensures)
+    (sym (all-done _ (c .before .loop .inv .0) (c .loop-test .left) (c .before .loop .inv .1)))
 
 pub good-coefs-spec : {M : Type 1} → statement M
 good-coefs-spec =
     tie.close
-    (tie.spec
-    Inv-loop
-    μ-loop
-    placed-requires
-    loop-holds
-    mul-t
-    element-copy-out-t
-    within-requires
-    returns
-    add-k
-    loop-less
-    loop-again
-    returns-2)
+    (tie.spec Inv-loop μ-loop (λ c κs. search needs) loop-holds (λ c. search needs) (λ c. search needs)
+    (λ c κs. search needs) returns (λ c. search needs) (λ c. search needs) loop-again returns-2)

@@ -19,9 +19,6 @@ returns c =
     let o : SFits w64 (pos 0) = search needs in
     rw (eq-eqb (natAbs z) 0 (ap natAbs (eq-bits h o (c .if1 .taken))))
 
-degree-of-requires : tie.Need-degree-of-requires
-degree-of-requires c κs = search needs
-
 returns-2 : tie.Need-returns-2
 unfolding goodTerm
 returns-2 c =
@@ -29,4 +26,4 @@ returns-2 c =
     rw (ne-eqb (natAbs z) 0 (λ e. c .before .if1 .left (ap (ofZ w64) (abs-zero z e))), c .degree-of .ensures)
 
 pub good-term-spec : {M : Type 1} → statement M
-good-term-spec = tie.close (tie.spec returns degree-of-requires returns-2)
+good-term-spec = tie.close (tie.spec returns (λ c κs. search needs) returns-2)

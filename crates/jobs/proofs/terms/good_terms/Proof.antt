@@ -15,7 +15,8 @@ use Rattle.jobs.proofs.TermLaws.{order-first, order-at}
 use Rattle.jobs.proofs.terms.good_terms.Statement.{statement}
 use Rattle.jobs.proofs.terms.good_terms.Tie as tie
 
-place : (q : Equation) (n k : ℕ) (a b : Bool) → goodTerm (termAt q k) n ≡ a → inOrder q n k ≡ b → goodPlace q n k ≡ a && b
+place : (q : Equation) (n k : ℕ) (a b : Bool)
+    → goodTerm (termAt q k) n ≡ a → inOrder q n k ≡ b → goodPlace q n k ≡ a && b
 unfolding goodPlace
 place q n k a b p o = rw (p, o)
 
@@ -37,15 +38,6 @@ loop-holds : tie.Need-loop-holds Inv-loop μ-loop
 unfolding allB
 loop-holds c = (omega arith, refl)
 
-mul-t : tie.Need-mul-t Inv-loop μ-loop
-mul-t c = search needs
-
-array-copy-out-t : tie.Need-array-copy-out-t Inv-loop μ-loop
-array-copy-out-t c = search needs
-
-good-term-requires : tie.Need-good-term-requires Inv-loop μ-loop
-good-term-requires c κs = search needs
-
 returns-2 : tie.Need-returns-2 Inv-loop μ-loop
 unfolding goodTerms
 returns-2 c =
@@ -54,18 +46,6 @@ returns-2 c =
     (sym (all-stop _ _ k (c .before .before .before .loop-test .taken)
     (bad-term _ _ k (sym (c .before .good-term .ensures) ∙ not-true _ (c .if2 .taken)))))
 
-sub-before : tie.Need-sub-before Inv-loop μ-loop
-sub-before c = search needs
-
-mul-u : tie.Need-mul-u Inv-loop μ-loop
-mul-u c = search needs
-
-array-copy-out-u : tie.Need-array-copy-out-u Inv-loop μ-loop
-array-copy-out-u c = search needs
-
-stands-before-requires : tie.Need-stands-before-requires Inv-loop μ-loop
-stands-before-requires c κs = search needs
-
 returns-3 : tie.Need-returns-3 Inv-loop μ-loop
 unfolding goodTerms
 returns-3 c =
@@ -73,14 +53,10 @@ returns-3 c =
     rw (le-leb _ _ (c .before .before .before .before .before .before .before .before .before .before .if1 .left))
     (sym (all-stop _ _ (l .k) (c .before .before .before .before .before .before .before .loop-test .taken)
     (place _ _ (l .k) true false
-    (sym (c .before .before .before .before .before .good-term .ensures) ∙ not-false _ (c .before .before .before .before .if2 .left))
-    (order-at _ _ (l .k) (c .before .before .before .if3 .taken) ∙ sym (c .before .stands-before .ensures) ∙ not-true _ (c .if4 .taken)))))
-
-add-k : tie.Need-add-k Inv-loop μ-loop
-add-k c = search needs
-
-loop-less : tie.Need-loop-less Inv-loop μ-loop
-loop-less c = search needs
+    (sym (c .before .before .before .before .before .good-term .ensures)
+    ∙ not-false _ (c .before .before .before .before .if2 .left))
+    (order-at _ _ (l .k) (c .before .before .before .if3 .taken) ∙ sym (c .before .stands-before .ensures)
+    ∙ not-true _ (c .if4 .taken)))))
 
 loop-again : tie.Need-loop-again Inv-loop μ-loop
 loop-again c =
@@ -98,26 +74,12 @@ loop-again c =
 returns-4 : tie.Need-returns-4 Inv-loop μ-loop
 unfolding goodTerms
 returns-4 c =
-    rw (le-leb _ _ (c .before .before .before .if1 .left)) (sym (all-done _ (c .before .loop .inv .0) (c .loop-test .left) (c .before .loop .inv .1)))
+    rw (le-leb _ _ (c .before .before .before .if1 .left))
+    (sym (all-done _ (c .before .loop .inv .0) (c .loop-test .left) (c .before .loop .inv .1)))
 
 pub good-terms-spec : {M : Type 1} → statement M
 good-terms-spec =
     tie.close
-    (tie.spec
-    Inv-loop
-    μ-loop
-    returns
-    loop-holds
-    mul-t
-    array-copy-out-t
-    good-term-requires
-    returns-2
-    sub-before
-    mul-u
-    array-copy-out-u
-    stands-before-requires
-    returns-3
-    add-k
-    loop-less
-    loop-again
-    returns-4)
+    (tie.spec Inv-loop μ-loop returns loop-holds (λ c. search needs) (λ c. search needs) (λ c κs. search needs)
+    returns-2 (λ c. search needs) (λ c. search needs) (λ c. search needs) (λ c κs. search needs) returns-3
+    (λ c. search needs) (λ c. search needs) loop-again returns-4)

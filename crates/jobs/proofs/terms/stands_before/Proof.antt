@@ -24,56 +24,30 @@ loop-holds : tie.Need-loop-holds Inv-loop μ-loop
 unfolding allB
 loop-holds c = (omega arith, refl)
 
-array-read-if1 : tie.Need-array-read-if1 Inv-loop μ-loop
-array-read-if1 c = search needs
-
-array-read-if1-2 : tie.Need-array-read-if1-2 Inv-loop μ-loop
-array-read-if1-2 c = search needs
-
 returns : tie.Need-returns Inv-loop μ-loop
 unfolding alike
 returns c = sym (falls-lower _ _ _ _ (c .before .loop-test .taken) (c .before .before .loop .inv .1) (c .if1 .taken))
 
-array-read-if2 : tie.Need-array-read-if2 Inv-loop μ-loop
-array-read-if2 c = search needs
-
-array-read-if2-2 : tie.Need-array-read-if2-2 Inv-loop μ-loop
-array-read-if2-2 c = search needs
-
 returns-2 : tie.Need-returns-2 Inv-loop μ-loop
 unfolding alike
-returns-2 c = sym (falls-higher _ _ _ _ (c .before .before .loop-test .taken) (c .before .before .before .loop .inv .1) (c .if2 .taken))
-
-add-k : tie.Need-add-k Inv-loop μ-loop
-add-k c = search needs
-
-loop-less : tie.Need-loop-less Inv-loop μ-loop
-loop-less c = search needs
+returns-2 c = sym (falls-higher _ _ _ _ (c .before .before .loop-test .taken)
+    (c .before .before .before .loop .inv .1) (c .if2 .taken))
 
 loop-again : tie.Need-loop-again Inv-loop μ-loop
 loop-again c =
-    let a = getD (c .before .before .before .before .before .before .args .t .exps) (c .before .before .before .loop .k) 0 in
-    let b = getD (c .before .before .before .before .before .before .args .u .exps) (c .before .before .before .loop .k) 0 in
+    let a = getD (c .before .before .before .before .before .before .args .t .exps)
+    (c .before .before .before .loop .k) 0 in
+    let b = getD (c .before .before .before .before .before .before .args .u .exps)
+    (c .before .before .before .loop .k) 0 in
     (omega arith, all-more _ _ (c .before .before .before .loop .inv .1) (eq-eqb a b (omega arith)))
 
 returns-3 : tie.Need-returns-3 Inv-loop μ-loop
 unfolding alike
-returns-3 c = sym (falls-same _ _ _ (all-done _ (c .before .loop .inv .0) (c .loop-test .left) (c .before .loop .inv .1)))
+returns-3 c =
+    sym (falls-same _ _ _ (all-done _ (c .before .loop .inv .0) (c .loop-test .left) (c .before .loop .inv .1)))
 
 pub stands-before-spec : {M : Type 1} → statement M
 stands-before-spec =
     tie.close
-    (tie.spec
-    Inv-loop
-    μ-loop
-    loop-holds
-    array-read-if1
-    array-read-if1-2
-    returns
-    array-read-if2
-    array-read-if2-2
-    returns-2
-    add-k
-    loop-less
-    loop-again
-    returns-3)
+    (tie.spec Inv-loop μ-loop loop-holds (λ c. search needs) (λ c. search needs) returns (λ c. search needs)
+    (λ c. search needs) returns-2 (λ c. search needs) (λ c. search needs) loop-again returns-3)

@@ -3,11 +3,8 @@ use borrow.Author.Needs.{needs}
 use Rattle.jobs.proofs.zero.zero_equation.Statement.{statement}
 use Rattle.jobs.proofs.zero.zero_equation.Tie as tie
 
-zero-term-requires : tie.Need-zero-term-requires
-zero-term-requires c κs = search needs
-
 returns : tie.Need-returns
 returns c = rw (c .zero-term .ensures)
 
 pub zero-equation-spec : {M : Type 1} → statement M
-zero-equation-spec = tie.close (tie.spec zero-term-requires returns)
+zero-equation-spec = tie.close (tie.spec (λ c κs. search needs) returns)

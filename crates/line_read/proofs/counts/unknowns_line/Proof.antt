@@ -11,24 +11,6 @@ use borrow.Author.Needs.{needs}
 use Rattle.line_read.proofs.counts.unknowns_line.Statement.{statement}
 use Rattle.line_read.proofs.counts.unknowns_line.Tie as tie
 
-slice-aggregate-digit-at : tie.Need-slice-aggregate-digit-at
-slice-aggregate-digit-at c = search needs
-
-digit-at-requires : tie.Need-digit-at-requires
-digit-at-requires c κs = search needs
-
-bad-unless-requires : tie.Need-bad-unless-requires
-bad-unless-requires c κs = search needs
-
-unknowns-check-requires : tie.Need-unknowns-check-requires
-unknowns-check-requires c κs = search needs
-
-first-of-requires : tie.Need-first-of-requires
-first-of-requires c κs = search needs
-
-judged-requires : tie.Need-judged-requires
-judged-requires c κs = search needs
-
 returns : tie.Need-returns
 unfolding unknownsOf
 returns c =
@@ -41,11 +23,5 @@ returns c =
 pub unknowns-line-spec : {M : Type 1} → statement M
 unknowns-line-spec =
     tie.close
-    (tie.spec
-    slice-aggregate-digit-at
-    digit-at-requires
-    bad-unless-requires
-    unknowns-check-requires
-    first-of-requires
-    judged-requires
-    returns)
+    (tie.spec (λ c. search needs) (λ c κs. search needs) (λ c κs. search needs) (λ c κs. search needs)
+    (λ c κs. search needs) (λ c κs. search needs) returns)

@@ -7,15 +7,6 @@ use borrow.Author.Needs.{needs}
 use Rattle.line_read.proofs.words.kind_line.Statement.{statement}
 use Rattle.line_read.proofs.words.kind_line.Tie as tie
 
-slice-aggregate-past : tie.Need-slice-aggregate-past
-slice-aggregate-past c = search needs
-
-past-requires : tie.Need-past-requires
-past-requires c κs = search needs
-
-is-kind-requires : tie.Need-is-kind-requires
-is-kind-requires c κs = search needs
-
 returns : tie.Need-returns
 returns c =
     let c4 = c .before .before .before .before in
@@ -23,15 +14,6 @@ returns c =
     let y = past-yes (kindText Kind.Poly) (p .text .now) (p .from) (c .before .before .past .ensures)
     (c .before .if1 .taken) in
     c .is-kind .ensures ∙ rw (kind-is (p .text .now) (p .from), y .0, y .1)
-
-slice-aggregate-past-2 : tie.Need-slice-aggregate-past-2
-slice-aggregate-past-2 c = search needs
-
-past-requires-2 : tie.Need-past-requires-2
-past-requires-2 c κs = search needs
-
-is-kind-requires-2 : tie.Need-is-kind-requires-2
-is-kind-requires-2 c κs = search needs
 
 returns-2 : tie.Need-returns-2
 returns-2 c =
@@ -42,15 +24,6 @@ returns-2 c =
     let y = past-yes (kindText Kind.Linear) (p .text .now) (p .from) (c .before .before .past2 .ensures)
     (c .before .if2 .taken) in
     c .is-kind2 .ensures ∙ rw (kind-is (p .text .now) (p .from), k, y .0, y .1)
-
-slice-aggregate-past-3 : tie.Need-slice-aggregate-past-3
-slice-aggregate-past-3 c = search needs
-
-past-requires-3 : tie.Need-past-requires-3
-past-requires-3 c κs = search needs
-
-is-kind-requires-3 : tie.Need-is-kind-requires-3
-is-kind-requires-3 c κs = search needs
 
 returns-3 : tie.Need-returns-3
 returns-3 c =
@@ -79,17 +52,6 @@ returns-4 c =
 pub kind-line-spec : {M : Type 1} → statement M
 kind-line-spec =
     tie.close
-    (tie.spec
-    slice-aggregate-past
-    past-requires
-    is-kind-requires
-    returns
-    slice-aggregate-past-2
-    past-requires-2
-    is-kind-requires-2
-    returns-2
-    slice-aggregate-past-3
-    past-requires-3
-    is-kind-requires-3
-    returns-3
-    returns-4)
+    (tie.spec (λ c. search needs) (λ c κs. search needs) (λ c κs. search needs) returns (λ c. search needs)
+    (λ c κs. search needs) (λ c κs. search needs) returns-2 (λ c. search needs) (λ c κs. search needs)
+    (λ c κs. search needs) returns-3 returns-4)

@@ -5,15 +5,6 @@ use borrow.Author.Needs.{needs}
 use Rattle.line_read.proofs.words.past.Statement.{statement}
 use Rattle.line_read.proofs.words.past.Tie as tie
 
-line-is-requires : tie.Need-line-is-requires
-line-is-requires c κs = search needs
-
-add-result : tie.Need-add-result
-add-result c = search needs
-
-add-result-2 : tie.Need-add-result-2
-add-result-2 c = search needs
-
 returns : tie.Need-returns
 returns c =
     line-past _ _ _ (c .before .before .before .before .pre .0) (sym (c .before .line-is .ensures) ∙ c .if1 .taken)
@@ -22,4 +13,4 @@ returns-2 : tie.Need-returns-2
 returns-2 c = rw (sym (c .before .line-is .ensures) ∙ c .if1 .left)
 
 pub past-spec : {M : Type 1} → statement M
-past-spec = tie.close (tie.spec line-is-requires add-result add-result-2 returns returns-2)
+past-spec = tie.close (tie.spec (λ c κs. search needs) (λ c. search needs) (λ c. search needs) returns returns-2)

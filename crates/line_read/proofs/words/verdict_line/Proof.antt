@@ -7,15 +7,6 @@ use borrow.Author.Needs.{needs}
 use Rattle.line_read.proofs.words.verdict_line.Statement.{statement}
 use Rattle.line_read.proofs.words.verdict_line.Tie as tie
 
-slice-aggregate-past : tie.Need-slice-aggregate-past
-slice-aggregate-past c = search needs
-
-past-requires : tie.Need-past-requires
-past-requires c κs = search needs
-
-is-verdict-requires : tie.Need-is-verdict-requires
-is-verdict-requires c κs = search needs
-
 returns : tie.Need-returns
 returns c =
     let c4 = c .before .before .before .before in
@@ -23,15 +14,6 @@ returns c =
     let y = past-yes (verdictText Verdict.None) (p .text .now) (p .from) (c .before .before .past .ensures)
     (c .before .if1 .taken) in
     c .is-verdict .ensures ∙ rw (verdict-is (p .text .now) (p .from), y .0, y .1)
-
-slice-aggregate-past-2 : tie.Need-slice-aggregate-past-2
-slice-aggregate-past-2 c = search needs
-
-past-requires-2 : tie.Need-past-requires-2
-past-requires-2 c κs = search needs
-
-is-verdict-requires-2 : tie.Need-is-verdict-requires-2
-is-verdict-requires-2 c κs = search needs
 
 returns-2 : tie.Need-returns-2
 returns-2 c =
@@ -42,15 +24,6 @@ returns-2 c =
     let y = past-yes (verdictText Verdict.Unique) (p .text .now) (p .from) (c .before .before .past2 .ensures)
     (c .before .if2 .taken) in
     c .is-verdict2 .ensures ∙ rw (verdict-is (p .text .now) (p .from), k, y .0, y .1)
-
-slice-aggregate-past-3 : tie.Need-slice-aggregate-past-3
-slice-aggregate-past-3 c = search needs
-
-past-requires-3 : tie.Need-past-requires-3
-past-requires-3 c κs = search needs
-
-is-verdict-requires-3 : tie.Need-is-verdict-requires-3
-is-verdict-requires-3 c κs = search needs
 
 returns-3 : tie.Need-returns-3
 returns-3 c =
@@ -64,15 +37,6 @@ returns-3 c =
     let y = past-yes (verdictText Verdict.Stalled) (p .text .now) (p .from) (c .before .before .past3 .ensures)
     (c .before .if3 .taken) in
     c .is-verdict3 .ensures ∙ rw (verdict-is (p .text .now) (p .from), k, m, y .0, y .1)
-
-slice-aggregate-past-4 : tie.Need-slice-aggregate-past-4
-slice-aggregate-past-4 c = search needs
-
-past-requires-4 : tie.Need-past-requires-4
-past-requires-4 c κs = search needs
-
-is-verdict-requires-4 : tie.Need-is-verdict-requires-4
-is-verdict-requires-4 c κs = search needs
 
 returns-4 : tie.Need-returns-4
 returns-4 c =
@@ -108,21 +72,7 @@ returns-5 c =
 pub verdict-line-spec : {M : Type 1} → statement M
 verdict-line-spec =
     tie.close
-    (tie.spec
-    slice-aggregate-past
-    past-requires
-    is-verdict-requires
-    returns
-    slice-aggregate-past-2
-    past-requires-2
-    is-verdict-requires-2
-    returns-2
-    slice-aggregate-past-3
-    past-requires-3
-    is-verdict-requires-3
-    returns-3
-    slice-aggregate-past-4
-    past-requires-4
-    is-verdict-requires-4
-    returns-4
+    (tie.spec (λ c. search needs) (λ c κs. search needs) (λ c κs. search needs) returns (λ c. search needs)
+    (λ c κs. search needs) (λ c κs. search needs) returns-2 (λ c. search needs) (λ c κs. search needs)
+    (λ c κs. search needs) returns-3 (λ c. search needs) (λ c κs. search needs) (λ c κs. search needs) returns-4
     returns-5)

@@ -14,27 +14,6 @@ use borrow.Author.Needs.{needs}
 use Rattle.list_read.proofs.numbers.any_low_line.Statement.{statement}
 use Rattle.list_read.proofs.numbers.any_low_line.Tie as tie
 
-slice-aggregate-list-at : tie.Need-slice-aggregate-list-at
-slice-aggregate-list-at c = search needs
-
-slice-aggregate-list-at-2 : tie.Need-slice-aggregate-list-at-2
-slice-aggregate-list-at-2 c = search needs
-
-list-at-requires : tie.Need-list-at-requires
-list-at-requires c κs = search needs
-
-bad-unless-requires : tie.Need-bad-unless-requires
-bad-unless-requires c κs = search needs
-
-counted-check-requires : tie.Need-counted-check-requires
-counted-check-requires c κs = search needs
-
-first-of-requires : tie.Need-first-of-requires
-first-of-requires c κs = search needs
-
-judged-low-requires : tie.Need-judged-low-requires
-judged-low-requires c κs = search needs
-
 returns : tie.Need-returns
 unfolding anyLowOf
 returns c =
@@ -48,12 +27,5 @@ returns c =
 pub any-low-line-spec : {M : Type 1} → statement M
 any-low-line-spec =
     tie.close
-    (tie.spec
-    slice-aggregate-list-at
-    slice-aggregate-list-at-2
-    list-at-requires
-    bad-unless-requires
-    counted-check-requires
-    first-of-requires
-    judged-low-requires
-    returns)
+    (tie.spec (λ c. search needs) (λ c. search needs) (λ c κs. search needs) (λ c κs. search needs)
+    (λ c κs. search needs) (λ c κs. search needs) (λ c κs. search needs) returns)

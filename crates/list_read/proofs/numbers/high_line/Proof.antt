@@ -12,27 +12,6 @@ use borrow.Author.Needs.{needs}
 use Rattle.list_read.proofs.numbers.high_line.Statement.{statement}
 use Rattle.list_read.proofs.numbers.high_line.Tie as tie
 
-slice-aggregate-list-at : tie.Need-slice-aggregate-list-at
-slice-aggregate-list-at c = search needs
-
-slice-aggregate-list-at-2 : tie.Need-slice-aggregate-list-at-2
-slice-aggregate-list-at-2 c = search needs
-
-list-at-requires : tie.Need-list-at-requires
-list-at-requires c κs = search needs
-
-count-found-requires : tie.Need-count-found-requires
-count-found-requires c κs = search needs
-
-high-check-requires : tie.Need-high-check-requires
-high-check-requires c κs = search needs
-
-first-of-requires : tie.Need-first-of-requires
-first-of-requires c κs = search needs
-
-judged-requires : tie.Need-judged-requires
-judged-requires c κs = search needs
-
 returns : tie.Need-returns
 unfolding highOf
 returns c =
@@ -48,12 +27,5 @@ returns c =
 pub high-line-spec : {M : Type 1} → statement M
 high-line-spec =
     tie.close
-    (tie.spec
-    slice-aggregate-list-at
-    slice-aggregate-list-at-2
-    list-at-requires
-    count-found-requires
-    high-check-requires
-    first-of-requires
-    judged-requires
-    returns)
+    (tie.spec (λ c. search needs) (λ c. search needs) (λ c κs. search needs) (λ c κs. search needs)
+    (λ c κs. search needs) (λ c κs. search needs) (λ c κs. search needs) returns)

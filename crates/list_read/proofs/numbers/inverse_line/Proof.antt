@@ -17,45 +17,22 @@ use borrow.Author.Needs.{needs}
 use Rattle.list_read.proofs.numbers.inverse_line.Statement.{statement}
 use Rattle.list_read.proofs.numbers.inverse_line.Tie as tie
 
-slice-aggregate-list-at : tie.Need-slice-aggregate-list-at
-slice-aggregate-list-at c = search needs
-
-slice-aggregate-list-at-2 : tie.Need-slice-aggregate-list-at-2
-slice-aggregate-list-at-2 c = search needs
-
-list-at-requires : tie.Need-list-at-requires
-list-at-requires c κs = search needs
-
-rows-of-requires : tie.Need-rows-of-requires
-rows-of-requires c κs = search needs
-
 mul-count-found : tie.Need-mul-count-found
 mul-count-found c =
-    let c4 = c .before .before .before .before in
-    omega (arith, square-fits (c4 .before .before .args .n) (c4 .before .before .pre .1))
-
-count-found-requires : tie.Need-count-found-requires
-count-found-requires c κs = search needs
-
-inverse-check-requires : tie.Need-inverse-check-requires
-inverse-check-requires c κs = search needs
-
-first-of-requires : tie.Need-first-of-requires
-first-of-requires c κs = search needs
-
-judged-rows-requires : tie.Need-judged-rows-requires
-judged-rows-requires c κs = search needs
+    let c7 = c .before .before .before .before .before .before .before in
+    omega (arith, square-fits (c7 .args .n) (c7 .pre .1))
 
 returns : tie.Need-returns
 unfolding inverseOf
 returns c =
     let c4 = c .before .before .before .before in
     let c8 = c4 .before .before .before .before in
-    let n = c8 .before .before .args .n in
+    let n = c8 .before .before .before .args .n in
     let rows = c4 .rows-of .ensures in
     let numbers = numbersOf invKey placesMax (n * n) in
     checked-line rowsAt (λ f b e. refl) (λ l. after (numbers l) (λ vals. rowsOf vals n)) (inverseCheck n) _ _
-    (after-spells numbers (λ vals. rowsOf vals n) _ _ (row-spells (c4 .before .before .list-at .ensures) (n * n)))
+    (after-spells numbers (λ vals. rowsOf vals n) _ _
+    (row-spells (c4 .before .before .before .list-at .ensures) (n * n)))
     (c .before .first-of .ensures
     ∙ ap₂ firstOf (c .before .before .before .count-found .ensures)
     (c .before .before .inverse-check .ensures ∙ ap (inverseCheck n) rows))
@@ -64,14 +41,5 @@ returns c =
 pub inverse-line-spec : {M : Type 1} → statement M
 inverse-line-spec =
     tie.close
-    (tie.spec
-    slice-aggregate-list-at
-    slice-aggregate-list-at-2
-    list-at-requires
-    rows-of-requires
-    mul-count-found
-    count-found-requires
-    inverse-check-requires
-    first-of-requires
-    judged-rows-requires
-    returns)
+    (tie.spec (λ c. search needs) (λ c. search needs) (λ c κs. search needs) (λ c κs. search needs) mul-count-found
+    (λ c κs. search needs) (λ c κs. search needs) (λ c κs. search needs) (λ c κs. search needs) returns)

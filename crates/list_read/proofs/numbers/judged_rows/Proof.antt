@@ -4,15 +4,6 @@ use borrow.Author.Needs.{needs}
 use Rattle.list_read.proofs.numbers.judged_rows.Statement.{statement}
 use Rattle.list_read.proofs.numbers.judged_rows.Tie as tie
 
-zero-row-requires : tie.Need-zero-row-requires
-zero-row-requires c κs = search needs
-
-enum-told : tie.Need-enum-told
-enum-told c = search needs
-
-enum-known-f : tie.Need-enum-known-f
-enum-known-f c = search needs
-
 returns : tie.Need-returns
 unfolding after
 returns c = rw (c .enum-told .given .1)
@@ -22,4 +13,4 @@ unfolding after
 returns-2 c = rw (c .before .f .given .1, c .before .before .before .zero-row .ensures)
 
 pub judged-rows-spec : {M : Type 1} → statement M
-judged-rows-spec = tie.close (tie.spec zero-row-requires enum-told enum-known-f returns returns-2)
+judged-rows-spec = tie.close (tie.spec (λ c κs. search needs) (λ c. search needs) (λ c. search needs) returns returns-2)

@@ -15,34 +15,13 @@ use Rattle.list_read.proofs.places.cells_of.Statement.{statement}
 use Rattle.list_read.proofs.places.cells_of.Tie as tie
 
 abbrev Inv-loop : tie.InvT-loop
-Inv-loop from n vals row₀ j₀ row j = (j ≤ n) × (row ≡ tab nMax j (pos 0) (λ k. getD vals (from + k) (pos 0)))
+Inv-loop vals from n row₀ j₀ row j = (j ≤ n) × (row ≡ tab nMax j (pos 0) (λ k. getD vals (from + k) (pos 0)))
 
 abbrev μ-loop : tie.MeasureT-loop
-μ-loop from n vals row₀ j₀ row j = n - j
+μ-loop vals from n row₀ j₀ row j = n - j
 
 loop-holds : tie.Need-loop-holds Inv-loop μ-loop
 loop-holds c = (omega arith, tab-none (pos 0) nMax _)
-
-add-row : tie.Need-add-row Inv-loop μ-loop
-add-row c = search needs
-
-mul-row : tie.Need-mul-row Inv-loop μ-loop
-mul-row c = search needs
-
-array-copy-out-row : tie.Need-array-copy-out-row Inv-loop μ-loop
-array-copy-out-row c = search needs
-
-mul-row-2 : tie.Need-mul-row-2 Inv-loop μ-loop
-mul-row-2 c = search needs
-
-array-set-from-row : tie.Need-array-set-from-row Inv-loop μ-loop
-array-set-from-row c = search needs
-
-add-j : tie.Need-add-j Inv-loop μ-loop
-add-j c = search needs
-
-loop-less : tie.Need-loop-less Inv-loop μ-loop
-loop-less c = search needs
 
 loop-again : tie.Need-loop-again Inv-loop μ-loop
 loop-again c =
@@ -50,7 +29,7 @@ loop-again c =
     let l = c .before .before .loop in (
       omega arith,
       tab-more (pos 0) nMax _ _ (omega arith) (l .inv .1)
-          (toZ-ofZ {w = w64} {z = getD (args .t1) (args .from + l .j) (pos 0)} (search needs)),
+          (toZ-ofZ {w = w64} {z = getD (args .vals .now) (args .from + l .j) (pos 0)} (search needs)),
     )
 
 returns : tie.Need-returns Inv-loop μ-loop
@@ -60,16 +39,5 @@ returns c = tab-done (pos 0) nMax _ (c .before .loop .inv .0) (c .loop-test .lef
 pub cells-of-spec : {M : Type 1} → statement M
 cells-of-spec =
     tie.close
-    (tie.spec
-    Inv-loop
-    μ-loop
-    loop-holds
-    add-row
-    mul-row
-    array-copy-out-row
-    mul-row-2
-    array-set-from-row
-    add-j
-    loop-less
-    loop-again
-    returns)
+    (tie.spec Inv-loop μ-loop loop-holds (λ c. search needs) (λ c. search needs) (λ c. search needs) (λ c. search needs)
+    (λ c. search needs) (λ c. search needs) (λ c. search needs) loop-again returns)

@@ -24,9 +24,6 @@ Inv-loop vals n rows₀ i₀ rows i = (i ≤ n) × (rows ≡ tab nMax i zeroRow 
 abbrev μ-loop : tie.MeasureT-loop
 μ-loop vals n rows₀ i₀ rows i = n - i
 
-zero-row-requires : tie.Need-zero-row-requires Inv-loop μ-loop
-zero-row-requires c κs = search needs
-
 loop-holds : tie.Need-loop-holds Inv-loop μ-loop
 loop-holds c = rw (c .zero-row .ensures) (omega arith, tab-none zeroRow nMax _)
 
@@ -43,18 +40,6 @@ cells-of-requires c κs =
           (c .before .before .before .pre),
     )
 
-mul-rows : tie.Need-mul-rows Inv-loop μ-loop
-mul-rows c = search needs
-
-array-set-from-rows : tie.Need-array-set-from-rows Inv-loop μ-loop
-array-set-from-rows c = search needs
-
-add-i : tie.Need-add-i Inv-loop μ-loop
-add-i c = search needs
-
-loop-less : tie.Need-loop-less Inv-loop μ-loop
-loop-less c = search needs
-
 loop-again : tie.Need-loop-again Inv-loop μ-loop
 unfolding rowFrom
 loop-again c = (
@@ -70,16 +55,5 @@ returns c = tab-done zeroRow nMax _ (c .before .loop .inv .0) (c .loop-test .lef
 pub rows-of-spec : {M : Type 1} → statement M
 rows-of-spec =
     tie.close
-    (tie.spec
-    Inv-loop
-    μ-loop
-    zero-row-requires
-    loop-holds
-    mul-cells-of
-    cells-of-requires
-    mul-rows
-    array-set-from-rows
-    add-i
-    loop-less
-    loop-again
-    returns)
+    (tie.spec Inv-loop μ-loop (λ c κs. search needs) loop-holds mul-cells-of cells-of-requires (λ c. search needs)
+    (λ c. search needs) (λ c. search needs) (λ c. search needs) loop-again returns)

@@ -4,15 +4,6 @@ use borrow.Author.Needs.{needs}
 use Rattle.list_read.proofs.system.judged_equation.Statement.{statement}
 use Rattle.list_read.proofs.system.judged_equation.Tie as tie
 
-enum-told : tie.Need-enum-told
-enum-told c = search needs
-
-enum-known-f : tie.Need-enum-known-f
-enum-known-f c = search needs
-
-zero-equation-requires : tie.Need-zero-equation-requires
-zero-equation-requires c κs = search needs
-
 returns : tie.Need-returns
 unfolding after
 returns c = rw (c .enum-told .given .1)
@@ -23,4 +14,5 @@ returns-2 c = rw (c .before .before .f .given .1, c .zero-equation .ensures)
 
 pub judged-equation-spec : {M : Type 1} → statement M
 judged-equation-spec =
-    tie.close (tie.spec enum-told enum-known-f zero-equation-requires returns returns-2)
+    tie.close
+    (tie.spec (λ c. search needs) (λ c. search needs) (λ c κs. search needs) returns returns-2)

@@ -1,6 +1,5 @@
 -- image: D, B, Z and E in document 01's order, each in the next one's range.
 use mathlib.Core.Path.{_∙_}
-use borrow.Author.Needs.{needs}
 use Rattle.run.proofs.Parts.{d-in, b-in, e-in, parts-in, image-made}
 use Rattle.run.proofs.step.image.Statement.{statement}
 use Rattle.run.proofs.step.image.Tie as tie
@@ -34,10 +33,4 @@ returns c =
 pub image-spec : {M : Type 1} → statement M
 image-spec =
     tie.close
-    (tie.spec
-    d-vector-requires
-    b-matrix-requires
-    offsets-requires
-    e-vector-requires
-    joined-requires
-    returns)
+    (tie.spec d-vector-requires b-matrix-requires offsets-requires e-vector-requires joined-requires returns)

@@ -12,7 +12,8 @@ use Rattle.run.proofs.step.joined.Statement.{statement}
 use Rattle.run.proofs.step.joined.Tie as tie
 
 abbrev Inv-loop : tie.InvT-loop
-Inv-loop n m d e k₀ i₀ k i = (i ≤ n) × (k ≡ tab nMax i zeroI (λ j. addI (addI (sideAt m j) (negI (sideAt d j))) (sideAt e j)))
+Inv-loop n m d e k₀ i₀ k i =
+    (i ≤ n) × (k ≡ tab nMax i zeroI (λ j. addI (addI (sideAt m j) (negI (sideAt d j))) (sideAt e j)))
 
 abbrev μ-loop : tie.MeasureT-loop
 μ-loop n m d e k₀ i₀ k i = n - i
@@ -20,32 +21,16 @@ abbrev μ-loop : tie.MeasureT-loop
 loop-holds : tie.Need-loop-holds Inv-loop μ-loop
 loop-holds c = (omega arith, tab-none zeroI nMax _)
 
-mul-add : tie.Need-mul-add Inv-loop μ-loop
-mul-add c = omega arith
-
-array-copy-out-add : tie.Need-array-copy-out-add Inv-loop μ-loop
-array-copy-out-add c = omega arith
-
-mul-negated : tie.Need-mul-negated Inv-loop μ-loop
-mul-negated c = omega arith
-
-array-copy-out-negated : tie.Need-array-copy-out-negated Inv-loop μ-loop
-array-copy-out-negated c = omega arith
-
 negated-requires : tie.Need-negated-requires Inv-loop μ-loop
-negated-requires c κs = let l = c .before .before .before in fits-neg (omega arith) (l .before .pre .d (l .loop .i) (c .before .before .loop-test .taken))
+negated-requires c κs = let l = c .before .before .before in
+    fits-neg (omega arith) (l .before .pre .d (l .loop .i) (c .before .before .loop-test .taken))
 
 add-requires : tie.Need-add-requires Inv-loop μ-loop
 add-requires c κs =
     let l = c .before .before .before .before in
     let t = c .before .before .before .loop-test .taken in
-    rw (c .negated .ensures) (fits-add (omega arith) (l .before .pre .middles (l .loop .i) t) (in-neg (l .before .pre .d (l .loop .i) t)))
-
-mul-add-2 : tie.Need-mul-add-2 Inv-loop μ-loop
-mul-add-2 c = omega arith
-
-array-copy-out-add-2 : tie.Need-array-copy-out-add-2 Inv-loop μ-loop
-array-copy-out-add-2 c = omega arith
+    rw (c .negated .ensures)
+    (fits-add (omega arith) (l .before .pre .middles (l .loop .i) t) (in-neg (l .before .pre .d (l .loop .i) t)))
 
 add-requires-2 : tie.Need-add-requires-2 Inv-loop μ-loop
 add-requires-2 c κs =
@@ -53,19 +38,8 @@ add-requires-2 c κs =
     let p = l .before .pre in
     let t = c .before .before .before .before .before .loop-test .taken in
     let newton = c .before .add .ensures ∙ ap (addI _) (c .before .before .negated .ensures) in
-    rw newton (fits-add (omega arith) (in-add (p .middles (l .loop .i) t) (in-neg (p .d (l .loop .i) t))) (p .e (l .loop .i) t))
-
-mul-k : tie.Need-mul-k Inv-loop μ-loop
-mul-k c = omega arith
-
-array-set-from-k : tie.Need-array-set-from-k Inv-loop μ-loop
-array-set-from-k c = omega arith
-
-add-i : tie.Need-add-i Inv-loop μ-loop
-add-i c = omega arith
-
-loop-less : tie.Need-loop-less Inv-loop μ-loop
-loop-less c = omega arith
+    rw newton (fits-add (omega arith) (in-add (p .middles (l .loop .i) t) (in-neg (p .d (l .loop .i) t)))
+    (p .e (l .loop .i) t))
 
 loop-again : tie.Need-loop-again Inv-loop μ-loop
 loop-again c =
@@ -79,22 +53,6 @@ returns c = tab-done zeroI nMax _ (c .before .loop .inv .0) (c .loop-test .left)
 pub joined-spec : {M : Type 1} → statement M
 joined-spec =
     tie.close
-    (tie.spec
-    Inv-loop
-    μ-loop
-    loop-holds
-    mul-add
-    array-copy-out-add
-    mul-negated
-    array-copy-out-negated
-    negated-requires
-    add-requires
-    mul-add-2
-    array-copy-out-add-2
-    add-requires-2
-    mul-k
-    array-set-from-k
-    add-i
-    loop-less
-    loop-again
-    returns)
+    (tie.spec Inv-loop μ-loop loop-holds (λ c. omega arith) (λ c. omega arith) (λ c. omega arith) (λ c. omega arith)
+    negated-requires add-requires (λ c. omega arith) (λ c. omega arith) add-requires-2 (λ c. omega arith)
+    (λ c. omega arith) (λ c. omega arith) (λ c. omega arith) loop-again returns)

@@ -23,29 +23,9 @@ abbrev μ-loop : tie.MeasureT-loop
 loop-holds : tie.Need-loop-holds Inv-loop μ-loop
 loop-holds c = (omega arith, tab-none zeroI nMax _)
 
-mul-middle : tie.Need-mul-middle Inv-loop μ-loop
-mul-middle c = omega arith
-
-array-copy-out-middle : tie.Need-array-copy-out-middle Inv-loop μ-loop
-array-copy-out-middle c = omega arith
-
 middle-requires : tie.Need-middle-requires Inv-loop μ-loop
-middle-requires c κs = let l = c .before .before in fits-mid (omega arith) (l .before .pre .each (l .loop .k) (c .before .loop-test .taken))
-
-point-requires : tie.Need-point-requires Inv-loop μ-loop
-point-requires c κs = search needs
-
-mul-m : tie.Need-mul-m Inv-loop μ-loop
-mul-m c = omega arith
-
-array-set-from-m : tie.Need-array-set-from-m Inv-loop μ-loop
-array-set-from-m c = omega arith
-
-add-k : tie.Need-add-k Inv-loop μ-loop
-add-k c = omega arith
-
-loop-less : tie.Need-loop-less Inv-loop μ-loop
-loop-less c = omega arith
+middle-requires c κs = let l = c .before .before in
+    fits-mid (omega arith) (l .before .pre .each (l .loop .k) (c .before .loop-test .taken))
 
 loop-again : tie.Need-loop-again Inv-loop μ-loop
 loop-again c =
@@ -59,17 +39,5 @@ returns c = tab-done zeroI nMax _ (c .before .loop .inv .0) (c .loop-test .left)
 pub middles-spec : {M : Type 1} → statement M
 middles-spec =
     tie.close
-    (tie.spec
-    Inv-loop
-    μ-loop
-    loop-holds
-    mul-middle
-    array-copy-out-middle
-    middle-requires
-    point-requires
-    mul-m
-    array-set-from-m
-    add-k
-    loop-less
-    loop-again
-    returns)
+    (tie.spec Inv-loop μ-loop loop-holds (λ c. omega arith) (λ c. omega arith) middle-requires (λ c κs. search needs)
+    (λ c. omega arith) (λ c. omega arith) (λ c. omega arith) (λ c. omega arith) loop-again returns)

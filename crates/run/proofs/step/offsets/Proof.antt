@@ -20,43 +20,24 @@ abbrev μ-loop : tie.MeasureT-loop
 loop-holds : tie.Need-loop-holds Inv-loop μ-loop
 loop-holds c = (omega arith, tab-none zeroI nMax _)
 
-mul-add : tie.Need-mul-add Inv-loop μ-loop
-mul-add c = omega arith
-
-array-copy-out-add : tie.Need-array-copy-out-add Inv-loop μ-loop
-array-copy-out-add c = omega arith
-
-mul-negated : tie.Need-mul-negated Inv-loop μ-loop
-mul-negated c = omega arith
-
-array-copy-out-negated : tie.Need-array-copy-out-negated Inv-loop μ-loop
-array-copy-out-negated c = omega arith
-
 negated-requires : tie.Need-negated-requires Inv-loop μ-loop
-negated-requires c κs = let l = c .before .before .before in fits-neg (omega arith) (l .before .pre .1 .each (l .loop .k) (c .before .before .loop-test .taken))
+negated-requires c κs = let l = c .before .before .before in
+    fits-neg (omega arith) (l .before .pre .1 .each (l .loop .k) (c .before .before .loop-test .taken))
 
 add-requires : tie.Need-add-requires Inv-loop μ-loop
 add-requires c κs =
     let l = c .before .before .before .before in
     let t = c .before .before .before .loop-test .taken in
-    rw (c .negated .ensures) (fits-add (omega arith) (l .before .pre .0 .each (l .loop .k) t) (in-neg (l .before .pre .1 .each (l .loop .k) t)))
-
-mul-z : tie.Need-mul-z Inv-loop μ-loop
-mul-z c = omega arith
-
-array-set-from-z : tie.Need-array-set-from-z Inv-loop μ-loop
-array-set-from-z c = omega arith
-
-add-k : tie.Need-add-k Inv-loop μ-loop
-add-k c = omega arith
-
-loop-less : tie.Need-loop-less Inv-loop μ-loop
-loop-less c = omega arith
+    rw (c .negated .ensures) (fits-add (omega arith) (l .before .pre .0 .each (l .loop .k) t)
+    (in-neg (l .before .pre .1 .each (l .loop .k) t)))
 
 loop-again : tie.Need-loop-again Inv-loop μ-loop
 loop-again c =
-    let l = c .before .before .before .before .before in
-    (omega arith, tab-more zeroI nMax _ _ (omega arith) (l .loop .inv .1) (c .add .ensures ∙ ap (addI _) (c .before .negated .ensures)))
+    let l = c .before .before .before .before .before in (
+      omega arith,
+      tab-more zeroI nMax _ _ (omega arith) (l .loop .inv .1)
+          (c .add .ensures ∙ ap (addI _) (c .before .negated .ensures)),
+    )
 
 returns : tie.Need-returns Inv-loop μ-loop
 returns c = tab-done zeroI nMax _ (c .before .loop .inv .0) (c .loop-test .left) (c .before .loop .inv .1)
@@ -64,19 +45,6 @@ returns c = tab-done zeroI nMax _ (c .before .loop .inv .0) (c .loop-test .left)
 pub offsets-spec : {M : Type 1} → statement M
 offsets-spec =
     tie.close
-    (tie.spec
-    Inv-loop
-    μ-loop
-    loop-holds
-    mul-add
-    array-copy-out-add
-    mul-negated
-    array-copy-out-negated
-    negated-requires
-    add-requires
-    mul-z
-    array-set-from-z
-    add-k
-    loop-less
-    loop-again
+    (tie.spec Inv-loop μ-loop loop-holds (λ c. omega arith) (λ c. omega arith) (λ c. omega arith) (λ c. omega arith)
+    negated-requires add-requires (λ c. omega arith) (λ c. omega arith) (λ c. omega arith) (λ c. omega arith) loop-again
     returns)

@@ -23,24 +23,6 @@ abbrev μ-loop : tie.MeasureT-loop
 loop-holds : tie.Need-loop-holds Inv-loop μ-loop
 loop-holds c = (omega arith, tab-none (pos 0) nMax _)
 
-mul-side : tie.Need-mul-side Inv-loop μ-loop
-mul-side c = omega arith
-
-array-copy-out-side : tie.Need-array-copy-out-side Inv-loop μ-loop
-array-copy-out-side c = omega arith
-
-mul-lo : tie.Need-mul-lo Inv-loop μ-loop
-mul-lo c = omega arith
-
-array-set-from-lo : tie.Need-array-set-from-lo Inv-loop μ-loop
-array-set-from-lo c = omega arith
-
-add-k : tie.Need-add-k Inv-loop μ-loop
-add-k c = omega arith
-
-loop-less : tie.Need-loop-less Inv-loop μ-loop
-loop-less c = omega arith
-
 loop-again : tie.Need-loop-again Inv-loop μ-loop
 loop-again c =
     let l = c .before .before .before in
@@ -53,15 +35,5 @@ returns c = tab-done (pos 0) nMax _ (c .before .loop .inv .0) (c .loop-test .lef
 pub low-ends-spec : {M : Type 1} → statement M
 low-ends-spec =
     tie.close
-    (tie.spec
-    Inv-loop
-    μ-loop
-    loop-holds
-    mul-side
-    array-copy-out-side
-    mul-lo
-    array-set-from-lo
-    add-k
-    loop-less
-    loop-again
-    returns)
+    (tie.spec Inv-loop μ-loop loop-holds (λ c. omega arith) (λ c. omega arith) (λ c. omega arith) (λ c. omega arith)
+    (λ c. omega arith) (λ c. omega arith) loop-again returns)

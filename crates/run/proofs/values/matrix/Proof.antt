@@ -20,42 +20,18 @@ abbrev μ-loop : tie.MeasureT-loop
 loop-holds : tie.Need-loop-holds Inv-loop μ-loop
 loop-holds c = (omega arith, tab-none (replicate nMax (pos 0)) nMax _)
 
-mul-row : tie.Need-mul-row Inv-loop μ-loop
-mul-row c = omega arith
-
-array-copy-out-row : tie.Need-array-copy-out-row Inv-loop μ-loop
-array-copy-out-row c = omega arith
-
-mul-c : tie.Need-mul-c Inv-loop μ-loop
-mul-c c = omega arith
-
-array-set-from-c : tie.Need-array-set-from-c Inv-loop μ-loop
-array-set-from-c c = omega arith
-
-add-i : tie.Need-add-i Inv-loop μ-loop
-add-i c = omega arith
-
-loop-less : tie.Need-loop-less Inv-loop μ-loop
-loop-less c = omega arith
-
 loop-again : tie.Need-loop-again Inv-loop μ-loop
-loop-again c = (omega arith, tab-more (replicate nMax (pos 0)) nMax _ _ (omega arith) (c .before .before .before .loop .inv .1) refl)
+loop-again c = (
+  omega arith,
+  tab-more (replicate nMax (pos 0)) nMax _ _ (omega arith) (c .before .before .before .loop .inv .1) refl,
+)
 
 returns : tie.Need-returns Inv-loop μ-loop
-returns c = tab-done (replicate nMax (pos 0)) nMax _ (c .before .loop .inv .0) (c .loop-test .left) (c .before .loop .inv .1)
+returns c =
+    tab-done (replicate nMax (pos 0)) nMax _ (c .before .loop .inv .0) (c .loop-test .left) (c .before .loop .inv .1)
 
 pub matrix-spec : {M : Type 1} → statement M
 matrix-spec =
     tie.close
-    (tie.spec
-    Inv-loop
-    μ-loop
-    loop-holds
-    mul-row
-    array-copy-out-row
-    mul-c
-    array-set-from-c
-    add-i
-    loop-less
-    loop-again
-    returns)
+    (tie.spec Inv-loop μ-loop loop-holds (λ c. omega arith) (λ c. omega arith) (λ c. omega arith) (λ c. omega arith)
+    (λ c. omega arith) (λ c. omega arith) loop-again returns)

@@ -26,34 +26,13 @@ abbrev μ-loop : tie.MeasureT-loop
 loop-holds : tie.Need-loop-holds Inv-loop μ-loop
 loop-holds c = (omega arith, tab-none zeroI nMax _)
 
-mul-t9 : tie.Need-mul-t9 Inv-loop μ-loop
-mul-t9 c = omega arith
-
-array-copy-out-t12 : tie.Need-array-copy-out-t12 Inv-loop μ-loop
-array-copy-out-t12 c = omega arith
-
-mul-t13 : tie.Need-mul-t13 Inv-loop μ-loop
-mul-t13 c = omega arith
-
-array-copy-out-t16 : tie.Need-array-copy-out-t16 Inv-loop μ-loop
-array-copy-out-t16 c = omega arith
-
-mul-x : tie.Need-mul-x Inv-loop μ-loop
-mul-x c = omega arith
-
-array-set-from-x : tie.Need-array-set-from-x Inv-loop μ-loop
-array-set-from-x c = omega arith
-
-add-k : tie.Need-add-k Inv-loop μ-loop
-add-k c = omega arith
-
-loop-less : tie.Need-loop-less Inv-loop μ-loop
-loop-less c = omega arith
-
 loop-again : tie.Need-loop-again Inv-loop μ-loop
 loop-again c =
-    let l = c .before .before .before .loop in
-    (omega arith, tab-more zeroI nMax _ _ (omega arith) (l .inv .1) (ap₂ interval (back (ok _ (c .before .t12 .given))) (back (ok _ (c .t16 .given)))))
+    let l = c .before .before .before .loop in (
+      omega arith,
+      tab-more zeroI nMax _ _ (omega arith) (l .inv .1)
+          (ap₂ interval (back (ok _ (c .before .t12 .given))) (back (ok _ (c .t16 .given)))),
+    )
 
 returns : tie.Need-returns Inv-loop μ-loop
 unfolding startOf
@@ -62,17 +41,5 @@ returns c = tab-done zeroI nMax _ (c .before .loop .inv .0) (c .loop-test .left)
 pub start-box-spec : {M : Type 1} → statement M
 start-box-spec =
     tie.close
-    (tie.spec
-    Inv-loop
-    μ-loop
-    loop-holds
-    mul-t9
-    array-copy-out-t12
-    mul-t13
-    array-copy-out-t16
-    mul-x
-    array-set-from-x
-    add-k
-    loop-less
-    loop-again
-    returns)
+    (tie.spec Inv-loop μ-loop loop-holds (λ c. omega arith) (λ c. omega arith) (λ c. omega arith) (λ c. omega arith)
+    (λ c. omega arith) (λ c. omega arith) (λ c. omega arith) (λ c. omega arith) loop-again returns)

@@ -30,29 +30,11 @@ Inv-loop vals₀ i₀ i-end vals i = (i ≤ i-end) × (i-end ≡ length vals₀)
 abbrev μ-loop : tie.MeasureT-loop
 μ-loop vals₀ i₀ i-end vals i = i-end - i
 
-loop-holds : tie.Need-loop-holds Inv-loop μ-loop
-loop-holds c = search needs
-
-mul-vals : tie.Need-mul-vals Inv-loop μ-loop
-mul-vals c = search needs
-
-slice-set-of-vals : tie.Need-slice-set-of-vals Inv-loop μ-loop
-slice-set-of-vals c = search needs
-
-add-i : tie.Need-add-i Inv-loop μ-loop
-add-i c = search needs
-
-loop-less : tie.Need-loop-less Inv-loop μ-loop
-loop-less c = search needs
-
 loop-again : tie.Need-loop-again Inv-loop μ-loop
 loop-again c =
     let l = c .before .loop in
     let i = l .inv in
     (omega arith, i .1, length-set (l .vals) (l .i) (pos 0) ∙ i .2, more (l .vals) (l .i) (omega arith) (i .3))
-
-same-length : tie.Need-same-length Inv-loop μ-loop
-same-length c = search needs
 
 returns : tie.Need-returns Inv-loop μ-loop
 returns c =
@@ -63,14 +45,5 @@ returns c =
 pub clear-spec : {M : Type 1} → statement M
 clear-spec =
     tie.close
-    (tie.spec
-    Inv-loop
-    μ-loop
-    loop-holds
-    mul-vals
-    slice-set-of-vals
-    add-i
-    loop-less
-    loop-again
-    same-length
-    returns)
+    (tie.spec Inv-loop μ-loop (λ c. search needs) (λ c. search needs) (λ c. search needs) (λ c. search needs)
+    (λ c. search needs) loop-again (λ c. search needs) returns)

@@ -11,29 +11,17 @@ use borrow.Author.Needs.{needs}
 use Rattle.scan.proofs.lines.count_at.Statement.{statement}
 use Rattle.scan.proofs.lines.count_at.Tie as tie
 
-key-at-requires : tie.Need-key-at-requires
-key-at-requires c κs = search needs
-
-no-count-requires : tie.Need-no-count-requires
-no-count-requires c κs = search needs
-
 returns : tie.Need-returns
 returns c =
     let p = c .before .before .before .before .before .pre in
     c .no-count .ensures
     ∙ other-key _ _ _ (p .0) _ (sym (c .before .before .key-at .ensures) ∙ no-not _ (c .before .if1 .taken))
 
-add-a : tie.Need-add-a
-add-a c = search needs
-
 number-at-requires : tie.Need-number-at-requires
 number-at-requires c κs =
     let a = c .before .before .before .before .args in
     key-long (a .s .now) (a .key .now) (a .from) (c .before .before .before .before .pre .0)
     (sym (c .before .key-at .ensures) ∙ yes-not _ (c .if1 .left))
-
-no-count-requires-2 : tie.Need-no-count-requires-2
-no-count-requires-2 c κs = search needs
 
 returns-2 : tie.Need-returns-2
 returns-2 c =
@@ -46,12 +34,6 @@ returns-2 c =
     (c .before .before .number-at .ensures)
     (λ g. absurd (omega (arith, c .before .if2 .taken)))
 
-is-at-requires : tie.Need-is-at-requires
-is-at-requires c κs = search needs
-
-no-count-requires-3 : tie.Need-no-count-requires-3
-no-count-requires-3 c κs = search needs
-
 returns-3 : tie.Need-returns-3
 returns-3 c =
     let a = c .before .before .before .before .before .before .before .before .before .args in
@@ -62,12 +44,6 @@ returns-3 c =
     ∙ no-count (a .s .now) (a .key .now) _ (p .0) _ (p .1) y
     (c .before .before .before .before .number-at .ensures)
     (λ g. sym (c .before .before .is-at .ensures) ∙ no-not _ (c .before .if3 .taken))
-
-in-count-requires : tie.Need-in-count-requires
-in-count-requires c κs = search needs
-
-add-t10 : tie.Need-add-t10
-add-t10 c = search needs
 
 returns-4 : tie.Need-returns-4
 returns-4 c =
@@ -85,17 +61,6 @@ returns-4 c =
 pub count-at-spec : {M : Type 1} → statement M
 count-at-spec =
     tie.close
-    (tie.spec
-    key-at-requires
-    no-count-requires
-    returns
-    add-a
-    number-at-requires
-    no-count-requires-2
-    returns-2
-    is-at-requires
-    no-count-requires-3
-    returns-3
-    in-count-requires
-    add-t10
-    returns-4)
+    (tie.spec (λ c κs. search needs) (λ c κs. search needs) returns (λ c. search needs) number-at-requires
+    (λ c κs. search needs) returns-2 (λ c κs. search needs) (λ c κs. search needs) returns-3 (λ c κs. search needs)
+    (λ c. search needs) returns-4)

@@ -5,15 +5,6 @@ use borrow.Author.Needs.{needs}
 use Rattle.scan.proofs.lines.line_is.Statement.{statement}
 use Rattle.scan.proofs.lines.line_is.Tie as tie
 
-key-at-requires : tie.Need-key-at-requires
-key-at-requires c κs = search needs
-
-add-is-at : tie.Need-add-is-at
-add-is-at c = search needs
-
-is-at-requires : tie.Need-is-at-requires
-is-at-requires c κs = search needs
-
 returns : tie.Need-returns
 returns c =
     let p = c .before .before .before .before .before .pre in
@@ -25,4 +16,4 @@ returns-2 c =
     (sym (c .before .key-at .ensures) ∙ c .if1 .left))
 
 pub line-is-spec : {M : Type 1} → statement M
-line-is-spec = tie.close (tie.spec key-at-requires add-is-at is-at-requires returns returns-2)
+line-is-spec = tie.close (tie.spec (λ c κs. search needs) (λ c. search needs) (λ c κs. search needs) returns returns-2)

@@ -7,18 +7,12 @@ use borrow.Author.Needs.{needs}
 use Rattle.scan.proofs.lines.list_at.Statement.{statement}
 use Rattle.scan.proofs.lines.list_at.Tie as tie
 
-key-at-requires : tie.Need-key-at-requires
-key-at-requires c κs = search needs
-
 returns : tie.Need-returns
 returns c =
     let a = c .before .before .before .before .args in
     let p = c .before .before .before .before .pre in
     no-list (a .vals .now) (other-key _ _ _ (p .0) (sym (c .before .key-at .ensures) ∙ no-not _ (c .if1 .taken))) refl
     refl (p .2 .zero)
-
-add-numbers-at : tie.Need-add-numbers-at
-add-numbers-at c = search needs
 
 numbers-at-requires : tie.Need-numbers-at-requires
 numbers-at-requires c κs =
@@ -28,9 +22,6 @@ numbers-at-requires c κs =
           (sym (c .before .before .key-at .ensures) ∙ yes-not _ (c .before .if1 .left)),
       p .2,
     )
-
-same-length : tie.Need-same-length
-same-length c = search needs
 
 returns-2 : tie.Need-returns-2
 returns-2 c =
@@ -42,4 +33,4 @@ returns-2 c =
 pub list-at-spec : {M : Type 1} → statement M
 list-at-spec =
     tie.close
-    (tie.spec key-at-requires returns add-numbers-at numbers-at-requires same-length returns-2)
+    (tie.spec (λ c κs. search needs) returns (λ c. search needs) numbers-at-requires (λ c. search needs) returns-2)

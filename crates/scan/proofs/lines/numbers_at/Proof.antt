@@ -20,15 +20,6 @@ abbrev μ-loop : tie.MeasureT-loop
 loop-holds : tie.Need-loop-holds Inv-loop μ-loop
 loop-holds c = let p = c .before .pre in begins _ _ _ (p .0) (p .1)
 
-number-at-requires : tie.Need-number-at-requires Inv-loop μ-loop
-number-at-requires c κs = search needs
-
-misspelled-requires : tie.Need-misspelled-requires Inv-loop μ-loop
-misspelled-requires c κs = search needs
-
-same-length : tie.Need-same-length Inv-loop μ-loop
-same-length c = search needs
-
 returns : tie.Need-returns Inv-loop μ-loop
 returns c =
     let l = c .before .before .before .before .before .loop in
@@ -36,21 +27,6 @@ returns c =
     no-list (l .vals)
     (none-there (l .inv) (c .before .before .before .before .number-at .ensures)
     (c .before .before .before .if1 .taken)) (bad .0) (l .inv .long) (bad .1)
-
-put-number-requires : tie.Need-put-number-requires Inv-loop μ-loop
-put-number-requires c κs = search needs
-
-add-count : tie.Need-add-count Inv-loop μ-loop
-add-count c = search needs
-
-is-at-requires : tie.Need-is-at-requires Inv-loop μ-loop
-is-at-requires c κs = search needs
-
-add-t15 : tie.Need-add-t15 Inv-loop μ-loop
-add-t15 c = search needs
-
-same-length-2 : tie.Need-same-length-2 Inv-loop μ-loop
-same-length-2 c = search needs
 
 returns-2 : tie.Need-returns-2 Inv-loop μ-loop
 returns-2 c =
@@ -60,15 +36,6 @@ returns-2 c =
     rw (c .before .before .before .put-number .ensures, toZ-ofZ fits)
     (ends (l .inv) (n .ensures) (c .before .before .before .before .before .before .if1 .left)
     (sym (c .before .is-at .ensures) ∙ c .if2 .taken))
-
-is-at-requires-2 : tie.Need-is-at-requires-2 Inv-loop μ-loop
-is-at-requires-2 c κs = search needs
-
-misspelled-requires-2 : tie.Need-misspelled-requires-2 Inv-loop μ-loop
-misspelled-requires-2 c κs = search needs
-
-same-length-3 : tie.Need-same-length-3 Inv-loop μ-loop
-same-length-3 c = search needs
 
 returns-3 : tie.Need-returns-3 Inv-loop μ-loop
 returns-3 c =
@@ -85,12 +52,6 @@ returns-3 c =
     no-list (put .last .0) w (bad .0) (ap length (put .ensures) ∙ length-set (l .vals) (l .count) _ ∙ l .inv .long)
     (bad .1)
 
-add-a : tie.Need-add-a Inv-loop μ-loop
-add-a c = search needs
-
-loop-less : tie.Need-loop-less Inv-loop μ-loop
-loop-less c = search needs
-
 loop-again : tie.Need-loop-again Inv-loop μ-loop
 loop-again c =
     let l = c .before .before .before .before .before .before .before .before .before .before .loop in
@@ -103,24 +64,7 @@ loop-again c =
 pub numbers-at-spec : {M : Type 1} → statement M
 numbers-at-spec =
     tie.close
-    (tie.spec
-    Inv-loop
-    μ-loop
-    loop-holds
-    number-at-requires
-    misspelled-requires
-    same-length
-    returns
-    put-number-requires
-    add-count
-    is-at-requires
-    add-t15
-    same-length-2
-    returns-2
-    is-at-requires-2
-    misspelled-requires-2
-    same-length-3
-    returns-3
-    add-a
-    loop-less
+    (tie.spec Inv-loop μ-loop loop-holds (λ c κs. search needs) (λ c κs. search needs) (λ c. search needs) returns
+    (λ c κs. search needs) (λ c. search needs) (λ c κs. search needs) (λ c. search needs) (λ c. search needs) returns-2
+    (λ c κs. search needs) (λ c κs. search needs) (λ c. search needs) returns-3 (λ c. search needs) (λ c. search needs)
     loop-again)

@@ -65,12 +65,6 @@ put-byte-requires c κs =
     let start = c .before .before .before .before .before in
     omega (arith, c .before .before .before .loop .inv .room, start .pre .0)
 
-add-k : tie.Need-add-k Inv-loop μ-loop
-add-k c = omega arith
-
-loop-less : tie.Need-loop-less Inv-loop μ-loop
-loop-less c = omega arith
-
 loop-again : tie.Need-loop-again Inv-loop μ-loop
 loop-again c =
     let l = c .before .before .before .before .before .before .loop in
@@ -102,18 +96,5 @@ returns-2 c =
 pub put-decimals-spec : {M : Type 1} → statement M
 put-decimals-spec =
     tie.close
-    (tie.spec
-    Inv-loop
-    μ-loop
-    loop-holds
-    same-length
-    returns
-    mul-tens
-    add-put-byte
-    cast-put-byte
-    put-byte-requires
-    add-k
-    loop-less
-    loop-again
-    same-length-2
-    returns-2)
+    (tie.spec Inv-loop μ-loop loop-holds same-length returns mul-tens add-put-byte cast-put-byte put-byte-requires
+    (λ c. omega arith) (λ c. omega arith) loop-again same-length-2 returns-2)

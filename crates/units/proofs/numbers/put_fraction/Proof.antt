@@ -10,15 +10,6 @@ returns : tie.Need-returns
 unfolding fraction
 returns c = rw (eq-eqb _ _ (c .if1 .taken)) (wrote-none _ _)
 
-put-byte-requires : tie.Need-put-byte-requires
-put-byte-requires c κs = search needs
-
-put-decimals-requires : tie.Need-put-decimals-requires
-put-decimals-requires c κs = search needs
-
-same-length : tie.Need-same-length
-same-length c = search needs
-
 returns-2 : tie.Need-returns-2
 unfolding fraction
 returns-2 c =
@@ -28,4 +19,5 @@ returns-2 c =
 
 pub put-fraction-spec : {M : Type 1} → statement M
 put-fraction-spec =
-    tie.close (tie.spec returns put-byte-requires put-decimals-requires same-length returns-2)
+    tie.close
+    (tie.spec returns (λ c κs. search needs) (λ c κs. search needs) (λ c. search needs) returns-2)

@@ -9,18 +9,12 @@ use Rattle.units.specs.Units.{unit, showSize}
 use Rattle.units.proofs.numbers.put_size.Statement.{statement}
 use Rattle.units.proofs.numbers.put_size.Tie as tie
 
-put-magnitude-requires : tie.Need-put-magnitude-requires
-put-magnitude-requires c κs = search needs
-
 put-fraction-requires : tie.Need-put-fraction-requires
 put-fraction-requires c κs =
     let whole = c .before .before .before in
     let start = whole .before .before .before in
     let short = show-short digitsMax (start .args .m / unit) in
     (omega (arith, whole .put-magnitude .ensures .next, short, start .pre), omega arith)
-
-same-length : tie.Need-same-length
-same-length c = search needs
 
 returns : tie.Need-returns
 unfolding showSize
@@ -29,5 +23,4 @@ returns c =
     wrote-append (whole .put-magnitude .ensures) (c .before .before .put-fraction .ensures)
 
 pub put-size-spec : {M : Type 1} → statement M
-put-size-spec =
-    tie.close (tie.spec put-magnitude-requires put-fraction-requires same-length returns)
+put-size-spec = tie.close (tie.spec (λ c κs. search needs) put-fraction-requires (λ c. search needs) returns)

@@ -24,18 +24,6 @@ unfolding showUnits
 non (pos n) t = refl
 non (negsuc n) t = absurd (true≢false t)
 
-abs-requires : tie.Need-abs-requires
-abs-requires c κs = search needs
-
-put-byte-requires : tie.Need-put-byte-requires
-put-byte-requires c κs = search needs
-
-put-size-requires : tie.Need-put-size-requires
-put-size-requires c κs = search needs
-
-same-length : tie.Need-same-length
-same-length c = search needs
-
 returns : tie.Need-returns
 returns c =
     let minus = c .before .before .before .before .before .before in
@@ -44,12 +32,6 @@ returns c =
     let e = toZ-ofZ (start .fits .v) in
     rw (neg (start .args .v) (rw e at (test .if1 .taken)), ← (test .before .abs .ensures ∙ ap natAbs e))
     (wrote-append (minus .put-byte .ensures) (c .before .before .put-size .ensures))
-
-put-size-requires-2 : tie.Need-put-size-requires-2
-put-size-requires-2 c κs = search needs
-
-same-length-2 : tie.Need-same-length-2
-same-length-2 c = search needs
 
 returns-2 : tie.Need-returns-2
 returns-2 c =
@@ -62,12 +44,5 @@ returns-2 c =
 pub put-units-spec : {M : Type 1} → statement M
 put-units-spec =
     tie.close
-    (tie.spec
-    abs-requires
-    put-byte-requires
-    put-size-requires
-    same-length
-    returns
-    put-size-requires-2
-    same-length-2
-    returns-2)
+    (tie.spec (λ c κs. search needs) (λ c κs. search needs) (λ c κs. search needs) (λ c. search needs) returns
+    (λ c κs. search needs) (λ c. search needs) returns-2)

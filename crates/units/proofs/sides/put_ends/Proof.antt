@@ -8,12 +8,6 @@ use Rattle.units.proofs.Short.{units-short}
 use Rattle.units.proofs.sides.put_ends.Statement.{statement}
 use Rattle.units.proofs.sides.put_ends.Tie as tie
 
-put-units-requires : tie.Need-put-units-requires
-put-units-requires c κs = search needs
-
-slice-aggregate-put-bytes : tie.Need-slice-aggregate-put-bytes
-slice-aggregate-put-bytes c = search needs
-
 put-bytes-requires : tie.Need-put-bytes-requires
 put-bytes-requires c κs =
     let low = c .before .before .before .before in
@@ -31,9 +25,6 @@ put-units-requires-2 c κs =
       rw (toZ-ofZ (start .fits .hi)) (start .pre .2),
     )
 
-same-length : tie.Need-same-length
-same-length c = search needs
-
 returns : tie.Need-returns
 unfolding showEnds
 returns c =
@@ -47,10 +38,5 @@ returns c =
 pub put-ends-spec : {M : Type 1} → statement M
 put-ends-spec =
     tie.close
-    (tie.spec
-    put-units-requires
-    slice-aggregate-put-bytes
-    put-bytes-requires
-    put-units-requires-2
-    same-length
+    (tie.spec (λ c κs. search needs) (λ c. search needs) put-bytes-requires put-units-requires-2 (λ c. search needs)
     returns)

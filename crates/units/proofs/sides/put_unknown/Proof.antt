@@ -11,18 +11,6 @@ use Rattle.units.proofs.Short.{ends-short}
 use Rattle.units.proofs.sides.put_unknown.Statement.{statement}
 use Rattle.units.proofs.sides.put_unknown.Tie as tie
 
-slice-aggregate-put-bytes : tie.Need-slice-aggregate-put-bytes
-slice-aggregate-put-bytes c = search needs
-
-put-bytes-requires : tie.Need-put-bytes-requires
-put-bytes-requires c κs = search needs
-
-put-magnitude-requires : tie.Need-put-magnitude-requires
-put-magnitude-requires c κs = search needs
-
-slice-aggregate-put-bytes-2 : tie.Need-slice-aggregate-put-bytes-2
-slice-aggregate-put-bytes-2 c = search needs
-
 put-bytes-requires-2 : tie.Need-put-bytes-requires-2
 put-bytes-requires-2 c κs =
     let count = c .before .before .before .before in
@@ -73,9 +61,6 @@ put-byte-requires c κs =
       start .pre .0,
     )
 
-same-length : tie.Need-same-length
-same-length c = search needs
-
 returns : tie.Need-returns
 unfolding unknownLine line
 returns c =
@@ -94,13 +79,5 @@ returns c =
 pub put-unknown-spec : {M : Type 1} → statement M
 put-unknown-spec =
     tie.close
-    (tie.spec
-    slice-aggregate-put-bytes
-    put-bytes-requires
-    put-magnitude-requires
-    slice-aggregate-put-bytes-2
-    put-bytes-requires-2
-    put-ends-requires
-    put-byte-requires
-    same-length
-    returns)
+    (tie.spec (λ c. search needs) (λ c κs. search needs) (λ c κs. search needs) (λ c. search needs) put-bytes-requires-2
+    put-ends-requires put-byte-requires (λ c. search needs) returns)

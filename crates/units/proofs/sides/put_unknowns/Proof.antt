@@ -39,21 +39,6 @@ abbrev μ-loop : tie.MeasureT-loop
 loop-holds : tie.Need-loop-holds Inv-loop μ-loop
 loop-holds c = record { few = omega arith; room = omega arith; wrote = rw (no-lines _ _) (wrote-none _ _) }
 
-mul-low : tie.Need-mul-low Inv-loop μ-loop
-mul-low c = search needs
-
-array-copy-out-low : tie.Need-array-copy-out-low Inv-loop μ-loop
-array-copy-out-low c = search needs
-
-mul-high : tie.Need-mul-high Inv-loop μ-loop
-mul-high c = search needs
-
-array-copy-out-high : tie.Need-array-copy-out-high Inv-loop μ-loop
-array-copy-out-high c = search needs
-
-add-put-unknown : tie.Need-add-put-unknown Inv-loop μ-loop
-add-put-unknown c = search needs
-
 put-unknown-requires : tie.Need-put-unknown-requires Inv-loop μ-loop
 put-unknown-requires c κs =
     let l = c .before .before .before .before .loop in
@@ -65,12 +50,6 @@ put-unknown-requires c κs =
       rw (toZ-ofZ {w = w64} {z = low} (search needs)) (small-live (start .args .t3) _ (l .i) (start .pre .low) test),
       rw (toZ-ofZ {w = w64} {z = high} (search needs)) (small-live (start .args .t4) _ (l .i) (start .pre .high) test),
     )
-
-add-i : tie.Need-add-i Inv-loop μ-loop
-add-i c = search needs
-
-loop-less : tie.Need-loop-less Inv-loop μ-loop
-loop-less c = search needs
 
 loop-again : tie.Need-loop-again Inv-loop μ-loop
 loop-again c =
@@ -99,18 +78,5 @@ returns c =
 pub put-unknowns-spec : {M : Type 1} → statement M
 put-unknowns-spec =
     tie.close
-    (tie.spec
-    Inv-loop
-    μ-loop
-    loop-holds
-    mul-low
-    array-copy-out-low
-    mul-high
-    array-copy-out-high
-    add-put-unknown
-    put-unknown-requires
-    add-i
-    loop-less
-    loop-again
-    same-length
-    returns)
+    (tie.spec Inv-loop μ-loop loop-holds (λ c. search needs) (λ c. search needs) (λ c. search needs) (λ c. search needs)
+    (λ c. search needs) put-unknown-requires (λ c. search needs) (λ c. search needs) loop-again same-length returns)

@@ -1,0 +1,108 @@
+-- A slip that is a fault has words, and what is none has none.
+use Prim.Native.Nat.{ℕ, _<_}
+use native.Mathlib.Omega.{arith}
+use mathlib.Core.Path.{_≡_, refl}
+use mathlib.Core.Bool.{Bool, true, false}
+use mathlib.Core.List.{List, [], _∷_}
+use lib.ListN.{length}
+use Rattle.faults.specs.declared.Fault.{Fault}
+use Rattle.faults.specs.declared.Finding.{Finding}
+use Rattle.slips.specs.declared.Field.{Field}
+use Rattle.slips.specs.declared.Form.{Form}
+use Rattle.slips.specs.declared.LineSlip.{LineSlip}
+use Rattle.slips.specs.declared.Misspelling.{Misspelling}
+use Rattle.slips.specs.declared.Spelled.{Spelled}
+use Rattle.slips.specs.declared.Far.{Far}
+use Rattle.slips.specs.declared.Crossing.{Crossing}
+use Rattle.slips.specs.declared.TermSlip.{TermSlip}
+use Rattle.slips.specs.declared.Slip.{Slip}
+use Rattle.slips.specs.Slips.{faultOf}
+use Rattle.sentences.specs.Sentences.{lineSlipWords, misspelledWords, farWords, crossedWords, termWords}
+use Rattle.sentences.specs.Sentences.{slipWords}
+
+zero-one : _≡_ {A = ℕ} 0 1 → ⊥
+zero-one e = omega arith
+
+abbrev begun : List ℕ → Bool
+begun [] = false
+begun (b ∷ bs) = true
+
+some : (bs : List ℕ) → begun bs ≡ true → 0 < length bs
+some [] e = absurd (zero-one (cc))
+some (b ∷ bs) e = omega arith
+
+line-some : (line : ℕ) (form : Form) (slip : LineSlip) → begun (lineSlipWords line form slip) ≡ true
+unfolding lineSlipWords
+line-some line form LineSlip.Gone = refl
+line-some line form LineSlip.Extra = refl
+line-some line form LineSlip.Hollow = refl
+line-some line form LineSlip.NoFeed = refl
+line-some line form LineSlip.Return = refl
+line-some line form LineSlip.Blank = refl
+line-some line form LineSlip.Capital = refl
+line-some line form LineSlip.NoKey = refl
+line-some line form LineSlip.Word = refl
+line-some line form LineSlip.Digit = refl
+
+misspelled-some : (s : Spelled) (m : Misspelling) → begun (misspelledWords s m) ≡ true
+unfolding misspelledWords
+misspelled-some s Misspelling.Empty = refl
+misspelled-some s Misspelling.OrderMark = refl
+misspelled-some s (Misspelling.Line slip) = line-some (s .line) (s .form) slip
+misspelled-some s (Misspelling.OtherKey key) = refl
+misspelled-some s (Misspelling.Number Field.Only wrong) = refl
+misspelled-some s (Misspelling.Number (Field.Number k) wrong) = refl
+misspelled-some s (Misspelling.Number (Field.Coefficient k) wrong) = refl
+misspelled-some s (Misspelling.Count expected found) = refl
+misspelled-some s (Misspelling.NoExponents k) = refl
+misspelled-some s (Misspelling.AfterTerm k) = refl
+misspelled-some s (Misspelling.Exponents k found) = refl
+
+far-some : (far : Far) → begun (farWords far) ≡ true
+unfolding farWords
+far-some (Far.Job v) = refl
+far-some (Far.End k v) = refl
+far-some (Far.Entry k v) = refl
+far-some (Far.Coefficient k v) = refl
+far-some Far.Unplaced = refl
+
+crossed-some : (at : Crossing) → begun (crossedWords at) ≡ true
+unfolding crossedWords
+crossed-some (Crossing.At i lo hi) = refl
+crossed-some Crossing.Unplaced = refl
+
+term-some : (slip : TermSlip) → begun (termWords slip) ≡ true
+unfolding termWords
+term-some (TermSlip.Many count) = refl
+term-some (TermSlip.Zero k) = refl
+term-some (TermSlip.Degree k d) = refl
+term-some (TermSlip.Same j k) = refl
+term-some (TermSlip.Order j k) = refl
+term-some TermSlip.Unplaced = refl
+
+slip-begun : (slip : Slip) {f : Fault} → faultOf slip ≡ Finding.Bad f → begun (slipWords slip) ≡ true
+unfolding slipWords
+slip-begun Slip.Nothing e = absurd (zero-one (cc))
+slip-begun Slip.Long e = refl
+slip-begun (Slip.Spelled s) e = misspelled-some s (s .slip)
+slip-begun (Slip.Unknowns n) e = refl
+slip-begun (Slip.Beyond far) e = far-some far
+slip-begun (Slip.Crossed at) e = crossed-some at
+slip-begun (Slip.Terms slip) e = term-some slip
+slip-begun Slip.Short e = refl
+slip-begun (Slip.Steps v) e = refl
+
+pub slip-some : (slip : Slip) {f : Fault} → faultOf slip ≡ Finding.Bad f → 0 < length (slipWords slip)
+slip-some slip e = some (slipWords slip) (slip-begun slip e)
+
+pub slip-none : (slip : Slip) → faultOf slip ≡ Finding.Fine → slipWords slip ≡ []
+unfolding slipWords
+slip-none Slip.Nothing e = refl
+slip-none Slip.Long e = absurd (zero-one (cc))
+slip-none (Slip.Spelled s) e = absurd (zero-one (cc))
+slip-none (Slip.Unknowns n) e = absurd (zero-one (cc))
+slip-none (Slip.Beyond far) e = absurd (zero-one (cc))
+slip-none (Slip.Crossed at) e = absurd (zero-one (cc))
+slip-none (Slip.Terms slip) e = absurd (zero-one (cc))
+slip-none Slip.Short e = absurd (zero-one (cc))
+slip-none (Slip.Steps v) e = absurd (zero-one (cc))

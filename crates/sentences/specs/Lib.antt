@@ -1,0 +1,4 @@
+pub mod Ascii
+pub mod Says
+pub mod Words
+pub mod Sentences

@@ -1,0 +1,167 @@
+-- The sentence of each slip: what stands there and what is expected.
+use Prim.Native.Nat.{ℕ, _≤_}
+use mathlib.Core.Path.{_≡_}
+use mathlib.Core.List.{List, [], _++_}
+use lib.IntN.{ℤ}
+use Rattle.sizes.specs.Sizes.{nMax, termsMax, textMax, stepsMax, numberMax, endMax, entryMax, degreeMax}
+use Rattle.faults.specs.declared.Finding.{Finding}
+use Rattle.writing.specs.Wrote.{Wrote}
+use Rattle.slips.specs.declared.Key.{Key}
+use Rattle.slips.specs.declared.Form.{Form}
+use Rattle.slips.specs.declared.Field.{Field}
+use Rattle.slips.specs.declared.Wrong.{Wrong}
+use Rattle.slips.specs.declared.LineSlip.{LineSlip}
+use Rattle.slips.specs.declared.Misspelling.{Misspelling}
+use Rattle.slips.specs.declared.Spelled.{Spelled}
+use Rattle.slips.specs.declared.Far.{Far}
+use Rattle.slips.specs.declared.Crossing.{Crossing}
+use Rattle.slips.specs.declared.TermSlip.{TermSlip}
+use Rattle.slips.specs.declared.Slip.{Slip}
+use Rattle.slips.specs.Slips.{faultOf}
+use Rattle.sentences.specs.Ascii.{ascii}
+use Rattle.sentences.specs.Words.{valueWords, keyWords, expectedWords, fieldWords, wrongWords}
+use Rattle.sentences.specs.Words.{counted, someWords, ownKeyWords}
+use Rattle.sentences.specs.Says.{sentenceMax}
+
+-- ---- fault 2
+
+-- the line by its number, and what it has
+abbrev pub lineWords : ℕ → List ℕ → List ℕ
+lineWords line words = counted (ascii "line ") line words
+
+-- the same, and what it must be
+abbrev pub lineNot : ℕ → List ℕ → Form → List ℕ
+lineNot line words form = lineWords line words ++ expectedWords form
+
+abbrev pub otherKeyWords : ℕ → Key → Form → List ℕ
+otherKeyWords line key form =
+    lineWords line (ascii " begins with ") ++ keyWords key ++ ascii ", " ++ ownKeyWords form ++ ascii " is expected"
+
+abbrev pub numberNot : Field → Wrong → Form → List ℕ
+numberNot field wrong form = fieldWords field ++ wrongWords wrong ++ expectedWords form
+
+abbrev pub countNot : ℕ → ℕ → ℕ → List ℕ
+countNot n expected found =
+    counted (ascii "n=") n (ascii ": ") ++ someWords expected (ascii " number expected, ") (ascii " numbers expected, ")
+    ++ counted [] found (ascii " found")
+
+abbrev pub exponentsNot : ℕ → ℕ → ℕ → List ℕ
+exponentsNot n k found =
+    counted (ascii "n=") n (ascii ": ")
+    ++ someWords n (ascii " exponent expected in term ") (ascii " exponents expected in term ")
+    ++ counted [] k (ascii ", ") ++ counted [] found (ascii " found")
+
+-- the term by its place, what it has and what the line must be
+abbrev pub termNot : ℕ → List ℕ → Form → List ℕ
+termNot k words form = counted (ascii "term ") k words ++ expectedWords form
+
+abbrev pub emptyWords : Form → List ℕ
+emptyWords form = ascii "the text is empty" ++ expectedWords form
+
+abbrev pub markWords : List ℕ
+markWords = ascii "the text begins with a byte order mark: save it as plain text without one"
+
+unfoldable pub lineSlipWords : ℕ → Form → LineSlip → List ℕ
+lineSlipWords line form LineSlip.Gone = lineNot line (ascii " is missing") form
+lineSlipWords line form LineSlip.Extra = lineWords line (ascii " is one too many: the line before it is the last")
+lineSlipWords line form LineSlip.Hollow = lineNot line (ascii " is empty") form
+lineSlipWords line form LineSlip.NoFeed = lineWords line (ascii " has no line feed: press Enter at its end")
+lineSlipWords line form LineSlip.Return = lineWords line (ascii " has a carriage return: save with Unix line ends")
+lineSlipWords line form LineSlip.Blank = lineWords line (ascii " has a blank or a tab: write it with none")
+lineSlipWords line form LineSlip.Capital = lineNot line (ascii " has a capital letter: all are small") form
+lineSlipWords line form LineSlip.NoKey = lineNot line (ascii " does not begin with its key") form
+lineSlipWords line form LineSlip.Word = lineNot line (ascii " has another word") form
+lineSlipWords line form LineSlip.Digit = lineNot line (ascii " has not just one digit") form
+
+unfoldable pub misspelledWords : Spelled → Misspelling → List ℕ
+misspelledWords s Misspelling.Empty = emptyWords (s .form)
+misspelledWords s Misspelling.OrderMark = markWords
+misspelledWords s (Misspelling.Line slip) = lineSlipWords (s .line) (s .form) slip
+misspelledWords s (Misspelling.OtherKey key) = otherKeyWords (s .line) key (s .form)
+misspelledWords s (Misspelling.Number field wrong) = numberNot field wrong (s .form)
+misspelledWords s (Misspelling.Count expected found) = countNot (s .n) expected found
+misspelledWords s (Misspelling.NoExponents k) = termNot k (ascii " has no exponents") (s .form)
+misspelledWords s (Misspelling.AfterTerm k) = termNot k (ascii " is not followed by a comma") (s .form)
+misspelledWords s (Misspelling.Exponents k found) = exponentsNot (s .n) k found
+
+-- ---- faults 4, 5 and 6
+
+-- from -m to m
+abbrev pub rangeWords : List ℕ → ℕ → List ℕ
+rangeWords words m = words ++ counted (ascii " lie from -") m (ascii " to ") ++ counted [] m []
+
+-- the number at a place is v, and of what size such numbers are
+abbrev pub farNot : List ℕ → ℕ → ℤ → List ℕ → ℕ → List ℕ
+farNot field k v words m = counted field k (ascii " is ") ++ valueWords v ++ rangeWords words m
+
+abbrev pub jobFarWords : ℤ → List ℕ
+jobFarWords v = ascii "the job's number is " ++ valueWords v ++ counted (ascii ": it lies from 0 to ") numberMax []
+
+unfoldable pub farWords : Far → List ℕ
+farWords (Far.Job v) = jobFarWords v
+farWords (Far.End k v) = farNot (ascii "number ") k v (ascii ": ends") endMax
+farWords (Far.Entry k v) = farNot (ascii "number ") k v (ascii ": entries") entryMax
+farWords (Far.Coefficient k v) = farNot (ascii "the coefficient of term ") k v (ascii ": coefficients") entryMax
+farWords Far.Unplaced = rangeWords (ascii "coefficients and entries") entryMax
+
+abbrev pub crossingWords : ℕ → ℤ → ℤ → List ℕ
+crossingWords i lo hi =
+    counted (ascii "unknown ") i (ascii ": the high end ") ++ valueWords hi
+    ++ ascii " is below the low end " ++ valueWords lo
+
+unfoldable pub crossedWords : Crossing → List ℕ
+crossedWords (Crossing.At i lo hi) = crossingWords i lo hi
+crossedWords Crossing.Unplaced = ascii "no high end may be below its low end"
+
+abbrev pub manyWords : ℕ → List ℕ
+manyWords count =
+    counted (ascii "an equation has at most ") termsMax (ascii " terms, this one has ") ++ counted [] count []
+
+abbrev pub degreeWords : ℕ → ℕ → List ℕ
+degreeWords k d =
+    counted (ascii "the exponents of term ") k (ascii " add up to ") ++ counted [] d (ascii ", at most ")
+    ++ counted [] degreeMax (ascii " may be")
+
+abbrev pub sameWords : ℕ → ℕ → List ℕ
+sameWords j k =
+    counted (ascii "terms ") j (ascii " and ") ++ counted [] k (ascii " have the same exponents: make them one term")
+
+abbrev pub orderWords : ℕ → ℕ → List ℕ
+orderWords j k =
+    counted (ascii "term ") k (ascii " must stand before term ")
+    ++ counted [] j (ascii ": terms stand in falling order of their exponents")
+
+unfoldable pub termWords : TermSlip → List ℕ
+termWords (TermSlip.Many count) = manyWords count
+termWords (TermSlip.Zero k) = counted (ascii "the coefficient of term ") k (ascii " is 0: leave the term out")
+termWords (TermSlip.Degree k d) = degreeWords k d
+termWords (TermSlip.Same j k) = sameWords j k
+termWords (TermSlip.Order j k) = orderWords j k
+termWords TermSlip.Unplaced = ascii "terms stand in strictly falling order of their exponents"
+
+-- ---- every slip
+
+abbrev pub unknownsWords : ℕ → List ℕ
+unknownsWords n = counted (ascii "there are 1 to ") nMax (ascii " unknowns, not ") ++ counted [] n []
+
+abbrev pub stepsWords : ℤ → List ℕ
+stepsWords v = ascii "steps is " ++ valueWords v ++ counted (ascii ": it lies from 0 to ") stepsMax []
+
+unfoldable pub slipWords : Slip → List ℕ
+slipWords Slip.Nothing = []
+slipWords Slip.Long = counted (ascii "a text has at most ") textMax (ascii " bytes, this one has more")
+slipWords (Slip.Spelled s) = misspelledWords s (s .slip)
+slipWords (Slip.Unknowns n) = unknownsWords n
+slipWords (Slip.Beyond far) = farWords far
+slipWords (Slip.Crossed at) = crossedWords at
+slipWords (Slip.Terms slip) = termWords slip
+slipWords Slip.Short = ascii "the answer is longer than its buffer"
+slipWords (Slip.Steps v) = stepsWords v
+
+-- the sentence of a slip that is the fault which the reader found stands from the start of the buffer on, as far as
+-- there is room, and every other byte is the old one; r is its length
+pub record Explains (found : Finding) (old new : List ℕ) (r : ℕ) : Type 0 where
+  pub slip : Slip
+  pub fault : faultOf slip ≡ found
+  pub words : Wrote old new 0 r (slipWords slip)
+  pub short : r ≤ sentenceMax

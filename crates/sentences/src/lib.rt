@@ -1,0 +1,79 @@
+// The sentence beside a fault, for the typist: what stands there and what is expected.
+mod parts;
+mod spelled;
+mod values;
+
+use parts::put_value;
+use parts::tell;
+use sizes::N;
+use sizes::STEPS;
+use sizes::TEXT;
+use slips::Slip;
+use slips::texts::job_slip;
+use slips::texts::result_slip;
+use spelled::put_misspelled;
+use values::put_crossed;
+use values::put_far;
+use values::put_terms;
+use writing::put_bytes;
+ghost use Rattle.job_form.specs.JobForm.{readJob};
+ghost use Rattle.result_form.specs.ResultForm.{readResult};
+ghost use Rattle.slips.specs.Slips.{foundIn};
+ghost use Rattle.sentences.specs.Says.{Says, sentenceMax};
+ghost use Rattle.sentences.specs.Sentences.{unknownsWords, stepsWords, slipWords, Explains};
+
+// The longest sentence: a buffer of this size has room for any.
+pub const SENTENCE: usize = 256;
+
+fn put_unknowns(out: &mut [u8], n: u64) -> usize
+    ensures { λ r. ⌜ Says sentenceMax (now (out .entry)) (now (out .exit)) 0 r (unknownsWords n) ⌝ }
+{
+    let a = tell(out, 0, b"there are 1 to ", N as u64, b" unknowns, not ");
+    tell(out, a, b"", n, b"")
+}
+
+fn put_steps(out: &mut [u8], v: i64) -> usize
+    ensures { λ r. ⌜ Says sentenceMax (now (out .entry)) (now (out .exit)) 0 r (stepsWords v) ⌝ }
+{
+    let a = put_bytes(out, 0, b"steps is ");
+    let b = put_value(out, a, v);
+    tell(out, b, b": it lies from 0 to ", STEPS, b"")
+}
+
+fn put_slip(out: &mut [u8], slip: Slip) -> usize
+    ensures { λ r. ⌜ Says sentenceMax (now (out .entry)) (now (out .exit)) 0 r (slipWords slip) ⌝ }
+{
+    match slip {
+        Slip::Nothing => 0,
+        Slip::Long => tell(
+            out,
+            0,
+            b"a text has at most ",
+            TEXT as u64,
+            b" bytes, this one has more",
+        ),
+        Slip::Spelled(s) => put_misspelled(out, s),
+        Slip::Unknowns(n) => put_unknowns(out, n as u64),
+        Slip::Beyond(far) => put_far(out, far),
+        Slip::Crossed(at) => put_crossed(out, at),
+        Slip::Terms(slip) => put_terms(out, slip),
+        Slip::Short => put_bytes(out, 0, b"the answer is longer than its buffer"),
+        Slip::Steps(v) => put_steps(out, v),
+    }
+}
+
+// The sentence beside a job text's fault, for any bytes and any buffer: its length, 0 where there is no fault. What
+// has no room is counted and not written.
+pub fn explain_job(text: &[u8], out: &mut [u8]) -> usize
+    ensures { λ r. ⌜ Explains (foundIn (readJob (now (text .entry)) .status)) (now (out .entry)) (now (out .exit)) r ⌝ }
+{
+    put_slip(out, job_slip(text))
+}
+
+// The same beside a result text's fault.
+pub fn explain_result(text: &[u8], out: &mut [u8]) -> usize
+    ensures { λ r. ⌜ Explains (foundIn (readResult (now (text .entry)) .status))
+        (now (out .entry)) (now (out .exit)) r ⌝ }
+{
+    put_slip(out, result_slip(text))
+}

@@ -1,0 +1,130 @@
+// What is wrong with a text that its reader refuses: the reader's own functions say where it stops, and the bytes there
+// what it met.
+pub mod forms;
+mod numbers;
+mod places;
+mod spelling;
+mod terms;
+pub mod texts;
+mod values;
+
+// The keys of both texts.
+pub enum Key {
+    Job,
+    Kind,
+    Unknowns,
+    Lo,
+    Hi,
+    Inv,
+    Steps,
+    Eq,
+    Row,
+    Verdict,
+}
+
+// What a line must be: so many numbers after a key, the right side last; terms with so many exponents.
+pub enum Form {
+    Number,
+    Kind,
+    Unknowns,
+    Numbers(Key, usize),
+    Sided(usize),
+    Terms(usize),
+    Steps,
+    Verdict,
+    Low,
+    Nothing,
+}
+
+// A number by its place in the line, counted from 1.
+pub enum Field {
+    Only,
+    Number(usize),
+    Coefficient(usize),
+}
+
+// What is wrong with a number's spelling.
+pub enum Wrong {
+    Missing,
+    MinusZero,
+    BareMinus,
+    Plus,
+    Comma,
+    LeadingZero,
+    LongDigits,
+    Point,
+    Other,
+}
+
+// What is wrong with a whole line.
+pub enum LineSlip {
+    Gone,
+    Extra,
+    Hollow,
+    NoFeed,
+    Return,
+    Blank,
+    Capital,
+    NoKey,
+    Word,
+    Digit,
+}
+
+// Fault 2. Terms are counted from 1; of numbers those that are expected come before those that are found.
+pub enum Misspelling {
+    Empty,
+    OrderMark,
+    Line(LineSlip),
+    OtherKey(Key),
+    Number(Field, Wrong),
+    Count(usize, usize),
+    NoExponents(usize),
+    AfterTerm(usize),
+    Exponents(usize, usize),
+}
+
+// Fault 4: the number and its place.
+pub enum Far {
+    Job(i64),
+    End(usize, i64),
+    Entry(usize, i64),
+    Coefficient(usize, i64),
+    Unplaced,
+}
+
+// Fault 5: the unknown, counted from 1, its low end and its high end.
+pub enum Crossing {
+    At(usize, i64, i64),
+    Unplaced,
+}
+
+// Fault 6. Terms are named by their places, counted from 1; two of them stand one after the other.
+pub enum TermSlip {
+    Many(usize),
+    Zero(usize),
+    Degree(usize, u64),
+    Same(usize, usize),
+    Order(usize, usize),
+    Unplaced,
+}
+
+// A line that is wrongly spelled: its number, the unknowns, what it must be and what is wrong.
+pub struct Spelled {
+    pub line: u64,
+    pub n: usize,
+    pub form: Form,
+    pub slip: Misspelling,
+}
+
+// A fault with what its sentence tells.
+pub enum Slip {
+    Nothing,
+    Long,
+    Spelled(Spelled),
+    Unknowns(usize),
+    Beyond(Far),
+    Crossed(Crossing),
+    Terms(TermSlip),
+    Short,
+    Steps(i64),
+}

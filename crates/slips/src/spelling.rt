@@ -1,0 +1,167 @@
+// A line that is wrongly spelled.
+use crate::Form;
+use crate::Key;
+use crate::LineSlip;
+use crate::Misspelling;
+use crate::forms::Keyed;
+use crate::forms::key_of;
+use crate::numbers::numbers;
+use crate::numbers::only_number;
+use crate::places::Stand;
+use crate::places::order_mark;
+use crate::places::past_key;
+use crate::places::stands;
+use crate::terms::terms;
+ghost use Prim.Native.Nat.{_≤_};
+ghost use lib.ListN.{length};
+ghost use Rattle.sizes.specs.Sizes.{nMax};
+
+fn is_small(b: u8) -> bool {
+    b'a' <= b && b <= b'z'
+}
+
+fn past_word(text: &[u8], from: usize) -> usize
+    requires { ⌜ from ≤ length (now text) ⌝ }
+{
+    let mut a = from;
+    while a < text.len() {
+        if !is_small(text[a]) {
+            return a;
+        }
+        a += 1;
+    }
+    a
+}
+
+// A word that is none of the line's.
+fn word(text: &[u8], from: usize) -> Misspelling
+    requires { ⌜ from ≤ length (now text) ⌝ }
+{
+    match stands(text, past_word(text, from)) {
+        Stand::End => Misspelling::Line(LineSlip::NoFeed),
+        Stand::Return => Misspelling::Line(LineSlip::Return),
+        Stand::Blank => Misspelling::Line(LineSlip::Blank),
+        Stand::Capital => Misspelling::Line(LineSlip::Capital),
+        _ => Misspelling::Line(LineSlip::Word),
+    }
+}
+
+// A digit that is none or goes on.
+fn digit(text: &[u8], from: usize) -> Misspelling
+    requires { ⌜ from ≤ length (now text) ⌝ }
+{
+    if text.len() <= from {
+        return Misspelling::Line(LineSlip::Digit);
+    }
+    match stands(text, from) {
+        Stand::Return => Misspelling::Line(LineSlip::Return),
+        Stand::Blank => Misspelling::Line(LineSlip::Blank),
+        Stand::Digit => match stands(text, from + 1) {
+            Stand::End => Misspelling::Line(LineSlip::NoFeed),
+            Stand::Return => Misspelling::Line(LineSlip::Return),
+            Stand::Blank => Misspelling::Line(LineSlip::Blank),
+            _ => Misspelling::Line(LineSlip::Digit),
+        },
+        _ => Misspelling::Line(LineSlip::Digit),
+    }
+}
+
+// The key that stands there in place of the line's own.
+fn other_key(text: &[u8], at: usize) -> Misspelling
+    requires { ⌜ at ≤ length (now text) ⌝ }
+{
+    if at < past_key(text, at, Key::Job) {
+        return Misspelling::OtherKey(Key::Job);
+    }
+    if at < past_key(text, at, Key::Kind) {
+        return Misspelling::OtherKey(Key::Kind);
+    }
+    if at < past_key(text, at, Key::Unknowns) {
+        return Misspelling::OtherKey(Key::Unknowns);
+    }
+    if at < past_key(text, at, Key::Lo) {
+        return Misspelling::OtherKey(Key::Lo);
+    }
+    if at < past_key(text, at, Key::Hi) {
+        return Misspelling::OtherKey(Key::Hi);
+    }
+    if at < past_key(text, at, Key::Inv) {
+        return Misspelling::OtherKey(Key::Inv);
+    }
+    if at < past_key(text, at, Key::Steps) {
+        return Misspelling::OtherKey(Key::Steps);
+    }
+    if at < past_key(text, at, Key::Eq) {
+        return Misspelling::OtherKey(Key::Eq);
+    }
+    if at < past_key(text, at, Key::Row) {
+        return Misspelling::OtherKey(Key::Row);
+    }
+    if at < past_key(text, at, Key::Verdict) {
+        return Misspelling::OtherKey(Key::Verdict);
+    }
+    Misspelling::Line(LineSlip::NoKey)
+}
+
+// The line's own key does not stand there.
+fn unkeyed(text: &[u8], at: usize) -> Misspelling
+    requires { ⌜ at ≤ length (now text) ⌝ }
+{
+    if at == 0 {
+        if order_mark(text) {
+            return Misspelling::OrderMark;
+        }
+    }
+    match stands(text, at) {
+        Stand::Feed => Misspelling::Line(LineSlip::Hollow),
+        Stand::Return => Misspelling::Line(LineSlip::Return),
+        Stand::Blank => Misspelling::Line(LineSlip::Blank),
+        Stand::Capital => Misspelling::Line(LineSlip::Capital),
+        _ => other_key(text, at),
+    }
+}
+
+// What stands after the line's key.
+fn keyed(text: &[u8], from: usize, form: Form, n: usize) -> Misspelling
+    requires { ⌜ (from ≤ length (now text)) × (n ≤ nMax) ⌝ }
+{
+    match form {
+        Form::Number => only_number(text, from),
+        Form::Kind => word(text, from),
+        Form::Unknowns => digit(text, from),
+        Form::Numbers(_, m) => numbers(text, from, m),
+        Form::Sided(m) => numbers(text, from, m),
+        Form::Terms(_) => terms(text, from, n),
+        Form::Steps => only_number(text, from),
+        Form::Verdict => word(text, from),
+        Form::Low => numbers(text, from, 1),
+        Form::Nothing => Misspelling::Line(LineSlip::Extra),
+    }
+}
+
+// No line is left to read where one must stand.
+fn gone(text: &[u8]) -> Misspelling {
+    if text.len() == 0 {
+        return Misspelling::Empty;
+    }
+    Misspelling::Line(LineSlip::Gone)
+}
+
+// The line that begins at this place, which must be of this form.
+pub fn line_slip(text: &[u8], at: usize, form: Form, n: usize) -> Misspelling
+    requires { ⌜ (at ≤ length (now text)) × (n ≤ nMax) ⌝ }
+{
+    if text.len() <= at {
+        return gone(text);
+    }
+    match key_of(form) {
+        Keyed::None => Misspelling::Line(LineSlip::Extra),
+        Keyed::By(key) => {
+            let from = past_key(text, at, key);
+            if from == at {
+                return unkeyed(text, at);
+            }
+            keyed(text, from, form, n)
+        }
+    }
+}

@@ -1,0 +1,4 @@
+pub mod Single
+pub mod Near
+pub mod Several
+pub mod Digits
