@@ -48,7 +48,7 @@ class Commands(unittest.TestCase):
     def test_fault_of_a_file(self):
         ended = call("solve", RESULT_FILE)
         self.assertEqual(ended.status, 1)
-        self.assertTrue(ended.err.startswith(f"{RESULT_FILE}:2: fault 2: expected kind="), ended.err)
+        self.assertEqual(ended.err, f"{RESULT_FILE}:2: fault 2: line 2 begins with verdict=, kind= is expected\n")
 
     def test_version(self):
         for word in ("version", "--version"):
