@@ -1,6 +1,6 @@
 // What is wrong with a text that its reader refuses: the reader's own functions say where it stops, and the bytes there
 // what it met.
-pub mod forms;
+mod forms;
 mod numbers;
 mod places;
 mod spelling;
