@@ -1,4 +1,4 @@
-/* The peer: the solver of document 01 in plain C, with the answers of the proved library to the mark. The bench times the two side by side. */
+/* The peer: the solver of documents 01 and 02 in plain C, with the answers of the proved library to the mark. The bench times the two side by side. */
 #ifndef PEER_H
 #define PEER_H
 

@@ -1,4 +1,4 @@
-/* The run of a job: document 01, "The arithmetic", "One Krawczyk step on box X with inverse C", "The three kinds". */
+/* The run of a job: document 01, "The arithmetic", "One Krawczyk step on box X with inverse C", "The three kinds"; powers as in document 02, P5. */
 #include <stdbool.h>
 #include <string.h>
 
@@ -55,13 +55,31 @@ static struct interval round_outward(struct interval a)
     return (struct interval){floor_marks(a.lo), ceil_marks(a.hi)};
 }
 
-/* "begin with [c, c], multiply by unknown 1 as often as its exponent says, then unknown 2 and so on, rounding after each product" */
+/* "the true range of the square (low end 0 when the box holds 0)", "rounded outward" */
+static struct interval square(struct interval x)
+{
+    int64_t p = x.lo * x.lo;
+    int64_t q = x.hi * x.hi;
+    bool holds_zero = x.lo <= 0 && 0 <= x.hi;
+    return round_outward((struct interval){holds_zero ? 0 : least(p, q), greatest(p, q)});
+}
+
+/* "exponent 3 is that square times the unknown, each rounded outward"; e is 1 to 3 */
+static struct interval power(struct interval x, uint8_t e)
+{
+    if (e == 1)
+        return x;
+    struct interval a = square(x);
+    return e == 2 ? a : round_outward(multiply(a, x));
+}
+
+/* "multiply the coefficient by the powers in unknown order", "rounding after each product" */
 static struct interval term_over(const struct term *t, const struct interval *x, size_t n)
 {
     struct interval a = point(t->coefficient);
     for (size_t k = 0; k < n; k++) {
-        for (uint8_t e = t->exponents[k]; e > 0; e--)
-            a = round_outward(multiply(a, x[k]));
+        if (t->exponents[k] > 0)
+            a = round_outward(multiply(a, power(x[k], t->exponents[k])));
     }
     return a;
 }

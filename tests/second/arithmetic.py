@@ -1,4 +1,5 @@
-"""The arithmetic of document 01: marks, intervals, the Krawczyk step, the run.
+"""The arithmetic of document 01, with the powers of document 02, P5: marks,
+intervals, powers, the Krawczyk step, the run.
 
 Every number is a whole count of marks, kept in Python's unbounded integers, so
 nothing here can overflow.  An interval is a pair (a, b) with a <= b; a box is a
@@ -69,13 +70,37 @@ def total(intervals):
     return low, high
 
 
+def holds_zero(x):
+    """"When the box holds 0", its ends included."""
+    return x[0] <= 0 <= x[1]
+
+
+def square(x):
+    """"Exponent 2 is the true range of the square (low end 0 when the box holds 0)",
+    "rounded outward"."""
+    ends = x[0] * x[0], x[1] * x[1]
+    return outward((0 if holds_zero(x) else min(ends), max(ends)))
+
+
+def cube(x):
+    """"Exponent 3 is that square times the unknown, each rounded outward." """
+    return product(square(x), x)
+
+
+def power(x, exponent):
+    """"Form a power first"; exponent 1 is the unknown itself."""
+    if exponent == 1:
+        return x
+    return square(x) if exponent == 2 else cube(x)
+
+
 def term_over(coefficient, exponents, box):
-    """"Begin with [c, c], multiply by unknown 1 as often as its exponent says,
-    then unknown 2 and so on, rounding after each product." """
+    """"Then multiply the coefficient by the powers in unknown order", "rounding after
+    each product".  Exponent 0 makes no product."""
     value = (coefficient, coefficient)
     for unknown, exponent in zip(box, exponents):
-        for _ in range(exponent):
-            value = product(value, unknown)
+        if exponent > 0:
+            value = product(value, power(unknown, exponent))
     return value
 
 
@@ -86,7 +111,8 @@ def equation_over(equation, box):
 
 def slope(equation, j, box):
     """"Over the terms with exponent e of at least 1, the term with that exponent
-    lowered by one, its ends multiplied by e, all summed." """
+    lowered by one, its ends multiplied by e, all summed."  "Slopes use the same
+    powers." """
     parts = []
     for c, exponents in equation:
         e = exponents[j]

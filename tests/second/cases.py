@@ -1,14 +1,14 @@
 """Cases from a seed: requests (operation, text) with the expected answers.
 
 About half are right texts; the others are damaged ones.  The fixed cases come
-first: document 01's examples and the places its readers get wrong.
+first: the documents' examples and the places their readers get wrong.
 """
 
 from arithmetic import (Job, KINDS, MARK, MAX_END, MAX_ENTRY, MAX_JOB, MAX_N,
                         MAX_STEPS, MAX_TERMS, Result, VERDICTS)
 from damage import DIGITS, JOBS, STEPS, WORDS, at_limits, bytes_of, damaged
 from dice import Dice
-from jobs import allowance, job_number, monomials, random_job
+from jobs import allowance, job_number, monomials, random_job, symmetric_job
 from texts import answer, job_text, result_text
 
 JOB_41 = Job(41, "poly", 1, [65_536], [131_072], [21_845], 8,
@@ -19,8 +19,11 @@ T11 = Job(11, "linear", 2, [-65_536] * 2, [65_536] * 2, [32_768, 0, 0, 16_384], 
           [[131_072, 0, 65_536], [0, 262_144, 65_536]])
 T12 = Job(12, "eigen", 2, [65_535, 131_071], [65_537, 131_073],
           [-65_536, 65_536, 0, -65_536], 8, [[65_536, 65_536], [0, 131_072]])
+# x x x + x = 1/2 between -1 and 1: the slope 3 x x + 1 is 1 to 4
+CUBE = Job(5, "poly", 1, [-65_536], [65_536], [26_214], 8,
+           [[(65_536, (3,)), (65_536, (1,)), (-32_768, (0,))]])
 EXAMPLES = [JOB_41, T7, T7._replace(steps=1), T9, JOB_41._replace(inv=[0]), T11, T12,
-            JOB_41._replace(steps=0)]
+            JOB_41._replace(steps=0), CUBE]
 
 
 def largest_job(kind):
@@ -124,15 +127,19 @@ def random_case(dice):
 
 
 def cases(seed, count):
-    """count requests, the fixed ones first."""
-    dice = Dice(seed)
+    """count requests, the fixed ones first.  Of the others each tenth is a symmetric
+    job; these have dice of their own, which leave the stream of the rest as it is."""
+    dice, symmetric = Dice(seed), Dice(~seed)
     made = 0
     for case in fixed():
         if made < count:
             yield case
             made += 1
-    for _ in range(count - made):
-        yield random_case(dice)
+    for number in range(count - made):
+        if number % 10 == 9:
+            yield "solve", job_text(symmetric_job(symmetric))
+        else:
+            yield random_case(dice)
 
 
 def write_cases(seed, count, requests, answers):

@@ -2,6 +2,10 @@
 
     claims.py [--seed S] [--count K]
 
+- Powers: the exact power of a fraction member of an interval lies in the power over
+  the interval; for two members the difference quotient of a power, over its
+  exponent, lies in the power one below: x + y over 2 in the interval itself,
+  x x + x y + y y over 3 in its square.
 - Nesting: with a larger allowance the box lies in that of a smaller one, and a
   verdict once reached stands.
 - Newton: at each step the exact Newton image p - C f(p) of every fraction point
@@ -21,7 +25,7 @@ from fractions import Fraction
 import arithmetic
 from arithmetic import MARK
 from dice import Dice
-from jobs import random_job
+from jobs import random_job, symmetric_job
 from texts import read_job, job_text
 from zeros import job_with_zeros
 
@@ -98,6 +102,23 @@ def try_nesting(job, tried):
         before = now
 
 
+def quotient(x, y, e):
+    """(x^e - y^e) / (x - y), which is a sum of e products of x's and y's, over e."""
+    return sum(x ** k * y ** (e - 1 - k) for k in range(e)) / e
+
+
+def try_powers(dice, job, X, tried):
+    """Powers and quotients, in marks, of the numbers that members of an edge stand for."""
+    for x, y, edge in zip(fraction_point(dice, X), fraction_point(dice, X), X):
+        for e in (2, 3):
+            exact = MARK * (x / MARK) ** e
+            claim(inside([exact], [arithmetic.power(edge, e)]), "power", job, edge, x, e)
+            tried[f"powers: members to the power {e}"] += 1
+            exact = MARK * quotient(x / MARK, y / MARK, e)
+            claim(inside([exact], [arithmetic.power(edge, e - 1)]), "quotient", job, edge, x, y, e)
+            tried[f"powers: quotients of exponent {e}"] += 1
+
+
 def distance(p, q, widths):
     """The greatest |p - q| over the widths."""
     return max(abs(v - w) / width for v, w, width in zip(p, q, widths))
@@ -131,6 +152,7 @@ def try_job(dice, job, zeros, tried):
     try_nesting(job, tried)
     for number, (X, K, verdict, box) in enumerate(arithmetic.trace(job)):
         if number < 12:
+            try_powers(dice, job, X, tried)
             for _ in range(4):
                 p = fraction_point(dice, X)
                 claim(inside(newton(job, equations, p), K), "newton", job, X, K, p)
@@ -149,11 +171,14 @@ def try_job(dice, job, zeros, tried):
 
 
 def try_claims(seed, count):
-    """count jobs, half of them with known zeros; how often each claim was tried.
-    Raises Breach at the first claim that does not hold."""
+    """count jobs, half of them with known zeros, a quarter symmetric; how often each
+    claim was tried.  Raises Breach at the first claim that does not hold."""
     dice, tried = Dice(seed), Counter()
     for number in range(count):
-        job, zeros = job_with_zeros(dice) if number % 2 else (random_job(dice), [])
+        if number % 2:
+            job, zeros = job_with_zeros(dice)
+        else:
+            job, zeros = (symmetric_job if number % 4 else random_job)(dice), []
         claim(read_job(job_text(job)) == job, "accepted", job)
         try_job(dice, job, zeros, tried)
     return tried

@@ -2,7 +2,8 @@
 
 A job is made of independent choices: a kind and n, a system with a wanted zero
 z (or none), a box placed against z, an inverse, an allowance.  Good inverses are
-computed in fractions from the slopes at the middle of the box.
+computed in fractions from the slopes at the middle of the box.  Symmetric jobs are
+those of document 02, P5: boxes round zero, squares and cubes in their terms.
 """
 
 from fractions import Fraction
@@ -11,7 +12,7 @@ from itertools import product as every
 
 from arithmetic import (Job, KINDS, MARK, MAX_N, MAX_STEPS, MAX_JOB, MAX_END,
                         MAX_ENTRY, MAX_TERMS, MAX_DEGREE, equation_over,
-                        equations_of, middle, slope)
+                        equations_of, middle, slope, unit)
 
 
 def clip(value, size):
@@ -62,6 +63,24 @@ def poly_lines(dice, n):
         if dice.one_in(12):
             terms = {e: dice.pick([MAX_ENTRY, -MAX_ENTRY]) for e in terms}
         lines.append([(terms[e], e) for e in sorted(terms, reverse=True)][:MAX_TERMS])
+    return lines
+
+
+def symmetric_lines(dice, n):
+    """In equation i unknown i, its cube and its products with squares, all of one sign,
+    so that their slope in it keeps that sign where no square is negative; and further
+    terms of degree 2 and 3."""
+    further = [e for e in monomials(n) if sum(e) >= 2]
+    size = dice.pick([1, 900, MARK // 32, MARK // 4])
+    lines = []
+    for i in range(n):
+        terms = {e: coefficient(dice, size) for e in dice.some(further, dice.below(4))}
+        sign, most = dice.pick([1, -1]), dice.pick([MARK // 4, MARK, 4 * MARK])
+        terms[unit(n, i)] = sign * dice.between(MARK // 8, MARK)
+        for k in range(n):
+            if k == i or dice.one_in(3):
+                terms[unit(n, i, k, k)] = sign * dice.between(1, most)
+        lines.append([(terms[e], e) for e in sorted(terms, reverse=True)])
     return lines
 
 
@@ -132,6 +151,14 @@ def box_around(dice, z):
                      v, radius) for v in z]
 
 
+def round_zero(dice):
+    """An edge that holds 0 in its middle, elsewhere or at an end, or ends beside it."""
+    radius = dice.pick([1, 900, MARK // 4, MARK // 2, MARK // 2, MARK, MARK, 2 * MARK])
+    far = dice.between(0, radius)
+    return dice.pick([(-radius, radius), (-radius, radius), (-radius, far), (-far, radius),
+                      (0, radius), (-radius, 0), (1, radius), (-radius, -1), (0, 0)])
+
+
 # Inverses.
 
 def inverse(matrix):
@@ -152,12 +179,24 @@ def inverse(matrix):
     return [row[n:] for row in rows]
 
 
-def good_inverse(equations, box):
-    """The inverse of the slopes at the middle, in marks; None where singular."""
-    point = [(middle(x), middle(x)) for x in box]
-    found = inverse([[Fraction(slope(equation, j, point)[0], MARK)
-                      for j in range(len(box))] for equation in equations])
+def inverse_in_marks(slopes):
+    """The inverse of slopes in marks, in marks; None where singular."""
+    found = inverse([[Fraction(v, MARK) for v in row] for row in slopes])
     return found and [clip(round(v * MARK), MAX_ENTRY) for row in found for v in row]
+
+
+def good_inverse(equations, box):
+    """The inverse of the slopes at the middle."""
+    point = [(middle(x), middle(x)) for x in box]
+    return inverse_in_marks([[slope(equation, j, point)[0] for j in range(len(box))]
+                             for equation in equations])
+
+
+def wide_inverse(equations, box):
+    """The inverse of the middles of the slopes over the box: better where a slope is
+    least or greatest at the middle, as that of a cube on a box round zero is."""
+    return inverse_in_marks([[middle(slope(equation, j, box)) for j in range(len(box))]
+                             for equation in equations])
 
 
 def choose_inverse(dice, equations, box):
@@ -206,3 +245,16 @@ def random_job(dice, kind=None, n=None):
     job = Job(job_number(dice), kind, n, [low for low, _ in box],
               [high for _, high in box], [], allowance(dice), lines)
     return job._replace(inv=choose_inverse(dice, equations_of(job), box))
+
+
+def symmetric_job(dice):
+    """A polynomial job on a box round zero, or touching it; its wanted zero lies in the
+    box, mostly, and often near 0."""
+    n = dice.pick([1, 1, 2, 2, 3, MAX_N])
+    box, eighths = [round_zero(dice) for _ in range(n)], dice.pick([1, 2, 4, 8, 16])
+    z = [dice.between(low, high) * eighths // 8 for low, high in box]
+    lines = settle("poly", n, symmetric_lines(dice, n), z)
+    wide = not dice.one_in(4) and wide_inverse(lines, box)
+    return Job(job_number(dice), "poly", n, [low for low, _ in box],
+               [high for _, high in box], wide or choose_inverse(dice, lines, box),
+               dice.pick([allowance(dice), 60]), lines)

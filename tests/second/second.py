@@ -1,4 +1,4 @@
-"""The second program: answers as the product does, from document 01 alone.
+"""The second program: answers as the product does, from documents 01 and 02 alone.
 
     second.py solve [FILE]     the result text of a job text
     second.py job [FILE]       reads a job text and writes it again

@@ -1,10 +1,10 @@
-"""Document 01's examples and faults, for texts and for values."""
+"""The examples of documents 01 and 02, and document 01's faults, for texts and for values."""
 
 import unittest
 
 import arithmetic
 from arithmetic import MAX_N, MAX_TEXT, Result, equation_over, equations_of
-from cases import EXAMPLES, JOB_41, T7, T9, T11, T12, largest_job
+from cases import CUBE, EXAMPLES, JOB_41, T7, T9, T11, T12, largest_job
 from texts import Fault, answer, job_text, read_job, read_result, result_text
 from texts import solve, write_job, write_result
 
@@ -54,6 +54,28 @@ def marked_examples():
     ]
 
 
+def power_examples():
+    """Powers, as document 02, P5, forms them: what is found and what should be."""
+    square, cube, term = arithmetic.square, arithmetic.cube, arithmetic.term_over
+    around, point = [(-65_536, 131_072)], [(400, 400), (100, 100)]
+    return [
+        (square((-1, 1)), (0, 1)),                          # "[-1,1] marks squared"
+        (square((-65_536, 131_072)), (0, 262_144)),         # T4 is a product, and stays
+        (square((-131_072, 0)), (0, 262_144)),              # 0 at an end
+        (square((0, 131_072)), (0, 262_144)),
+        (square((-131_072, -65_536)), (65_536, 262_144)),   # 0 outside
+        (square((65_536, 131_072)), (65_536, 262_144)),
+        (square((-3, -3)), (0, 1)),                         # "each rounded outward"
+        (cube((-65_536, 131_072)), (-262_144, 524_288)),    # [-1,2] units: [-4,8]
+        (cube((100_000, 100_000)), (232_829, 232_831)),     # 232,830.6 before any rounding
+        (term(65_536, (2,), around), (0, 262_144)),
+        (term(4_194_304, (2, 0), point), (128, 192)),       # 64 times [2,3], not 156.25
+        (term(4_194_304, (2, 1), point), (0, 1)),           # the coefficient first
+        (arithmetic.slope([(65_536, (3,))], 0, around), (0, 786_432)),
+        (told(CUBE), ("unique", 1, [(-26_215, 52_429)])),
+    ]
+
+
 def line_changed(text, line, new):
     """The text with one line (counted from 1) in another spelling."""
     lines = text.split(b"\n")
@@ -62,11 +84,15 @@ def line_changed(text, line, new):
 
 
 class Examples(unittest.TestCase):
-    """The examples of document 01."""
+    """The examples of both documents."""
 
     def test_marked_examples(self):
         for number, (found, wanted) in enumerate(marked_examples(), 1):
             self.assertEqual(found, wanted, f"T{number}")
+
+    def test_powers(self):
+        for number, (found, wanted) in enumerate(power_examples(), 1):
+            self.assertEqual(found, wanted, f"power {number}")
 
     def test_job_41(self):
         self.assertEqual(read_job(TEXT_41), JOB_41)

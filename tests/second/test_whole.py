@@ -9,8 +9,10 @@ import texts
 from arithmetic import MARK, MAX_N, MAX_TEXT
 from cases import cases, write_cases
 from claims import Breach, try_claims
+from dice import Dice
+from jobs import symmetric_job
 from second import batch
-from test_second import RESULT_41, TEXT_41, marked_examples
+from test_second import RESULT_41, TEXT_41, marked_examples, power_examples
 from texts import answer
 
 
@@ -78,6 +80,16 @@ class Cases(unittest.TestCase):
                 self.assertIn((f"kind={kind}", f"verdict={verdict}"), met)
         self.assertLessEqual({0, MAX_TEXT - 1, MAX_TEXT, MAX_TEXT + 1}, lengths)
 
+    def test_symmetric_jobs(self):
+        """All verdicts are met, and some jobs are decided that stall by plain products."""
+        dice = Dice(1)
+        jobs = [symmetric_job(dice) for _ in range(300)]
+        now = [arithmetic.run(job).verdict for job in jobs]
+        with patch.object(arithmetic, "term_over", by_products):
+            before = [arithmetic.run(job).verdict for job in jobs]
+        self.assertEqual(set(now), set(arithmetic.VERDICTS))
+        self.assertIn(("stalled", "unique"), set(zip(before, now)))
+
 
 # Slips: the name in a module, and what stands there instead.
 
@@ -133,12 +145,64 @@ def last_unknown_first(c, exponents, box):
     return term_over(c, exponents[::-1], box[::-1])
 
 
-decide, image, term_over = arithmetic.decide, arithmetic.image, arithmetic.term_over
+def by_products(c, exponents, box):
+    """A term before P5: "multiply by unknown 1 as often as its exponent says"."""
+    value = (c, c)
+    for unknown, exponent in zip(box, exponents):
+        for _ in range(exponent):
+            value = arithmetic.product(value, unknown)
+    return value
+
+
+def slope_by_products(equation, j, box):
+    """Slopes by plain products, while values use powers."""
+    with patch.object(arithmetic, "term_over", by_products):
+        return slope(equation, j, box)
+
+
+def values_by_products(equation, box):
+    """Values by plain products, while slopes use powers."""
+    return arithmetic.total(by_products(c, e, box) for c, e in equation)
+
+
+def powers_first(c, exponents, box):
+    """The powers multiplied with each other before the coefficient."""
+    return arithmetic.product(term_over(MARK, exponents, box), (c, c))
+
+
+def plain_square(x):
+    """A square that goes below zero on a box around zero."""
+    return arithmetic.product(x, x)
+
+
+def square_from_zero(x):
+    """A square whose low end is 0 on every box."""
+    return 0, square(x)[1]
+
+
+def square_inward(x):
+    """The square rounded inward."""
+    def inward(exact):
+        return arithmetic.up(exact[0]), arithmetic.down(exact[1])
+    with patch.object(arithmetic, "outward", inward):
+        return square(x)
+
+
+def cube_at_once(x):
+    """The cube from the unrounded square."""
+    with patch.object(arithmetic, "outward", lambda exact: exact):
+        low, high = cube(x)
+    return low // MARK ** 2, -(-high // MARK ** 2)
+
+
+decide, image = arithmetic.decide, arithmetic.image
+term_over, slope = arithmetic.term_over, arithmetic.slope
+square, cube = arithmetic.square, arithmetic.cube
 
 
 def caught_by_examples():
-    """Whether some marked example is wrong."""
-    return any(found != wanted for found, wanted in marked_examples())
+    """Whether some example is wrong."""
+    return any(found != wanted for found, wanted in marked_examples() + power_examples())
 
 
 def caught_by_claims():
@@ -165,6 +229,7 @@ class Claims(unittest.TestCase):
     def test_no_breach(self):
         tried = try_claims(2, 300)
         for name in ("contraction: pairs of points", "newton: points",
+                     "powers: members to the power 3", "powers: quotients of exponent 3",
                      "zeros: kept by a run that is unique",
                      "zeros: kept by a run that is stalled",
                      "zeros: starting boxes with two or more"):
@@ -188,6 +253,15 @@ class Claims(unittest.TestCase):
         self.slip("slope", slope_alone, *everywhere)
         self.slip("slope", factor_first, caught_by_cases)
         self.slip("term_over", last_unknown_first, caught_by_cases)
+
+    def test_slips_of_the_powers(self):
+        self.slip("square", plain_square, caught_by_examples, caught_by_cases)
+        self.slip("square", square_from_zero, caught_by_examples, caught_by_cases)
+        self.slip("square", square_inward, caught_by_examples, caught_by_claims, caught_by_cases)
+        self.slip("cube", cube_at_once, caught_by_examples, caught_by_cases)
+        self.slip("term_over", powers_first, caught_by_examples, caught_by_cases)
+        self.slip("slope", slope_by_products, caught_by_examples, caught_by_cases)
+        self.slip("equation_over", values_by_products, caught_by_cases)
 
     def test_slips_of_the_texts(self):
         loose = texts.re.compile("-?[0-9]{1,9}")

@@ -1,10 +1,11 @@
--- T1 to T12 hold, by computation.
+-- T1 to T12 and the examples of requests hold, by computation.
 use mathlib.Core.Path.{refl}
 use Rattle.integers.specs.Rounding.{floorBy, ceilBy}
 use Rattle.integers.specs.Least.{minℤ, maxℤ}
 use Rattle.integers.specs.Sums.{sumTo}
 use Rattle.lists.specs.Loops.{tab, carry, allB}
 use Rattle.intervals.specs.Interval.{addI, negI, sumI, scaleI, wideI, outI, mulI, midI, meetsI, insideI, cutI, sameI}
+use Rattle.powers.specs.Powers.{holdsZero, rangeI, squareI, cubeI, powerI}
 use Rattle.matrices.specs.Products.{dotI, dOf, unitZ, entryB, bOf, eOf}
 use Rattle.jobs.specs.Ranges.{isWithin, allWithin, allOrdered}
 use Rattle.jobs.specs.Terms.{alike, falls, inOrder, goodTerm, goodPlace, goodTerms, goodCoefs, degree}
@@ -24,11 +25,11 @@ use Rattle.examples.specs.Table.{table, Holds}
 
 pub marked-examples : Holds table
 unfolding floorBy ceilBy minℤ maxℤ sumTo tab carry allB addI negI sumI scaleI wideI outI mulI midI meetsI insideI cutI
-    sameI dotI dOf unitZ entryB bOf eOf isWithin allWithin allOrdered alike falls inOrder goodTerm goodPlace goodTerms
+    sameI holdsZero rangeI squareI cubeI powerI dotI dOf unitZ entryB bOf eOf isWithin allWithin allOrdered alike falls inOrder goodTerm goodPlace goodTerms
     goodCoefs andThen badUnless firstOf onLine linesOf goodUnknowns goodMatrix numberCheck unknownsCheck lowCheck
     highCheck inverseCheck stepsCheck equationCheck rowCheck sidedCheck systemCheck lineCheck jobLineStatus systemLines
     headLines bodyLines checkJob factorI termOver equationOver lowered termSlope slopeOver power termNum degree
     equationNum unitE vectorE linearEquation eigenEquation equationOf imageOf allMeet allInside cutSame cutBox decideOf
     imageBox stepOf runOf startOf outcomeOf resultOf runJob
 marked-examples =
-    (refl, (refl, (refl, (refl, (refl, (refl, (refl, (refl, (refl, (refl, (refl, (refl, (refl, (refl, tt))))))))))))))
+    (refl, (refl, (refl, (refl, (refl, (refl, (refl, (refl, (refl, (refl, (refl, (refl, (refl, (refl, (refl, (refl, tt))))))))))))))))

@@ -1,4 +1,4 @@
--- The jobs of the marked examples, written as their texts are: lists for the live places, zero past them.
+-- The jobs of the examples, written as their texts are: lists for the live places, zero past them.
 use mathlib.Core.List.{List, [], _∷_}
 use Prim.Native.Nat.{ℕ}
 use lib.IntN.{ℤ, pos, negℤ}
@@ -78,3 +78,11 @@ job11 =
 abbrev pub job12 : Job
 job12 = eigenJob 12 (pos 0 ∷ pos 0 ∷ []) (pos 0 ∷ pos 0 ∷ []) [] 0
     ((pos 65536 ∷ pos 65536 ∷ []) ∷ (pos 0 ∷ pos 131072 ∷ []) ∷ [])
+
+-- P5: "our symmetric hinges", examples/hinge-geared.txt
+abbrev pub job304 : Job
+job304 =
+    polyJob 304 (minus 49152 ∷ pos 40960 ∷ []) (pos 49152 ∷ pos 65536 ∷ [])
+    ((pos 0 ∷ pos 59919 ∷ []) ∷ (pos 40330 ∷ pos 0 ∷ []) ∷ []) 20
+    ((term (pos 65536) (2 ∷ 0 ∷ []) ∷ term (pos 65536) (0 ∷ 2 ∷ []) ∷ term (minus 65536) (0 ∷ 0 ∷ []) ∷ [])
+    ∷ (term (pos 65536) (3 ∷ 0 ∷ []) ∷ term (pos 16384) (1 ∷ 0 ∷ []) ∷ term (minus 8192) (0 ∷ 0 ∷ []) ∷ []) ∷ [])

@@ -1,4 +1,5 @@
--- Document 01, "Marked examples T1 to T12": "T1 to T12 are proved as a single table under a single claim."
+-- Document 01, "Marked examples T1 to T12": "T1 to T12 are proved as a single table under a single claim." Those of
+-- document 02's requests stand after them.
 use mathlib.Core.Path.{_≡_}
 use mathlib.Core.List.{List, [], _∷_}
 use Prim.Native.Nat.{ℕ}
@@ -6,6 +7,7 @@ use lib.IntN.{ℤ, pos}
 use Rattle.intervals.specs.declared.Interval.{Interval}
 use Rattle.intervals.specs.Interval.{pointI, zeroI, mulI, midI}
 use Rattle.intervals.specs.Places.{numberAt, sideAt}
+use Rattle.powers.specs.Powers.{powerI}
 use Rattle.systems.specs.Terms.{equationOver}
 use Rattle.systems.specs.Fractions.{equationNum}
 use Rattle.systems.specs.Kinds.{equationOf}
@@ -16,7 +18,7 @@ use Rattle.jobs.specs.declared.Job.{Job}
 use Rattle.faults.specs.declared.Status.{Status}
 use Rattle.jobs.specs.declared.Verdict.{Verdict}
 use Rattle.run.specs.declared.Answer.{Answer}
-use Rattle.examples.specs.Jobs.{minus, job41, job7, job9, job11, job12}
+use Rattle.examples.specs.Jobs.{minus, job41, job7, job9, job11, job12, job304}
 
 -- what an example speaks of
 pub data Thing : Type 0 where
@@ -35,6 +37,10 @@ from a b = record { lo = a; hi = b }
 -- "[a,b] times [c,d] is [e,f]"
 abbrev times : Interval → Interval → Interval → Example
 times a b r = record { computed = Thing.interval (mulI a b); told = Thing.interval r }
+
+-- "[a,b] squared becomes [c,d]"
+abbrev squared : Interval → Interval → Example
+squared a r = record { computed = Thing.interval (powerI 2 a); told = Thing.interval r }
 
 -- the answer of a job: verdict, steps and box
 abbrev runs : Job → Verdict → ℕ → List Interval → Example
@@ -83,6 +89,10 @@ table =
     -- T12
     ∷ bothAre (valueAt job12 point12) (Thing.number (pos 0))
     ∷ bothAre (valueOver job12 point12) (Thing.interval zeroI)
+    -- P5: "[-1,1] marks squared becomes [0,1]"
+    ∷ squared (from (minus 1) (pos 1)) (from (pos 0) (pos 1))
+    -- and a symmetric hinge that stalled before
+    ∷ runs job304 Verdict.Unique 9 (from (pos 19961) (pos 24637) ∷ from (pos 58670) (pos 64738) ∷ [])
     ∷ []
 
 abbrev pub Holds : List Example → Type 0

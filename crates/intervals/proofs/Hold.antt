@@ -1,14 +1,14 @@
 -- What lies in intervals: sums, negations, multiples, products and roundings of intervals hold those of their members.
 use mathlib.Core.List.{[], _∷_}
-use mathlib.Core.Path.{_≡_, refl, ap, _∙_}
+use mathlib.Core.Path.{_≡_, refl}
 use Prim.Native.Nat.{ℕ, zero, suc, _<_}
 use native.Mathlib.Omega.{arith}
-use lib.IntN.{ℤ, pos, negℤ, _+ℤ_, _*ℤ_, zero-*ℤ}
+use lib.IntN.{ℤ, pos, negℤ, _+ℤ_, _*ℤ_}
 use lib.Signed.{_≤ℤ_, _<ℤ_}
-use Rattle.integers.proofs.Commutative.{*ℤ-distrib-r, *ℤ-assoc, neg-*ℤ}
+use Rattle.integers.proofs.Commutative.{*ℤ-distrib-l, *ℤ-distrib-r, *ℤ-assoc, neg-*ℤ}
 use Rattle.integers.proofs.Parts.{zorder}
 use Rattle.integers.proofs.Linear.{zlin}
-use Rattle.integers.proofs.Ring.{lit, _⊕_, _⊗_, ring}
+use Rattle.integers.proofs.Ring.{_⊗_, ring}
 use Rattle.integers.proofs.Order.{cancel-r, mul-mono-r, above-l, above-r, below-l, below-r, nonneg, pos-mul}
 use Rattle.integers.specs.Least.{min4, max4}
 use Rattle.integers.proofs.Least.{min4-1, min4-2, min4-3, min4-4, max4-1, max4-2, max4-3, max4-4}
@@ -77,27 +77,21 @@ unfolding sumTo sumI carry
 hold-sum zero f G p h = hold-zero p
 hold-sum (suc n) f G p h = hold-add (hold-sum n f G p (λ k l. h k (omega arith))) (h n (omega arith))
 
--- e members, each its own, added up
-pub hold-times : (e : ℕ) (f : ℕ → ℤ) {U : ℤ} {A : Interval} → pos 0 <ℤ U → ((i : ℕ) → i < e → In (f i) U A)
-    → In (sumTo e f) U (scaleI e A)
-unfolding sumTo scaleI
-hold-times zero f {U} {A} p h =
-    record { den = p; low = rw (zero-*ℤ (A .lo)) (hold-zero p .low); high = rw (zero-*ℤ (A .hi)) (hold-zero p .high) }
-hold-times (suc e) f {U} {A} p h =
-    let r = hold-times e f p (λ i l. h i (omega arith)) in
-    let t = h e (omega arith) in
-    record {
-      den = p;
-      low = rw (more e (A .lo)) (simp zlin (omega (zorder, r .low, t .low)));
-      high = rw (more e (A .hi)) (simp zlin (omega (zorder, r .high, t .high)));
-    }
+-- the mean of two members, weighted by their denominators
+pub hold-mean : {u v U W : ℤ} {A : Interval} → In u U A → In v W A → In (u +ℤ v) (U +ℤ W) A
+hold-mean {u} {v} {U} {W} {A} h k = record {
+  den = simp zlin (omega (zorder, h .den, k .den));
+  low = rw (*ℤ-distrib-l (A .lo) U W) (simp zlin (omega (zorder, h .low, k .low)));
+  high = rw (*ℤ-distrib-l (A .hi) U W) (simp zlin (omega (zorder, h .high, k .high)));
+}
+
+-- e times a member
+pub hold-scale : (e : ℕ) {u U : ℤ} {A : Interval} → pos 0 <ℤ U → In u (U *ℤ pos e) A → In u U (scaleI e A)
+unfolding scaleI
+hold-scale e {u} {U} {A} p h = record { den = p; low = rw (turn (A .lo)) (h .low); high = rw (turn (A .hi)) (h .high) }
   where
-    more : (e : ℕ) (a : ℤ) → (pos (suc e) *ℤ a) *ℤ U ≡ (pos e *ℤ a) *ℤ U +ℤ a *ℤ U
-    more e a = ap (λ (x : ℤ). (x *ℤ a) *ℤ U) one
-        ∙ ring (pos e ∷ a ∷ U ∷ []) (λ e a u. ((e ⊕ lit (pos 1)) ⊗ a) ⊗ u) (λ e a u. (e ⊗ a) ⊗ u ⊕ a ⊗ u) refl
-      where
-        one : pos (suc e) ≡ pos e +ℤ pos 1
-        one = simp zlin (omega zorder)
+    turn : (a : ℤ) → (pos e *ℤ a) *ℤ U ≡ a *ℤ (U *ℤ pos e)
+    turn a = ring (pos e ∷ a ∷ U ∷ []) (λ e a u. (e ⊗ a) ⊗ u) (λ e a u. a ⊗ (u ⊗ e)) refl
 
 -- the exact product: first one factor moves between its ends, then the other
 pub hold-wide : {u U v W : ℤ} {A B : Interval} → In u U A → In v W B → In (u *ℤ v) (U *ℤ W) (wideI A B)

@@ -14,6 +14,7 @@ use Rattle.integers.specs.Sums.{sumTo}
 use Rattle.intervals.specs.Places.{numberAt, sideAt}
 use Rattle.intervals.specs.Fraction.{In}
 use Rattle.intervals.specs.Interval.{addI, negI, sumI, scaleI, wideI, outI, mulI, midI, meetsI, insideI}
+use Rattle.powers.specs.Powers.{powerI}
 use Rattle.matrices.specs.Products.{dotI, dOf, unitZ, entryB, bOf, eOf}
 use Rattle.jobs.specs.Ranges.{isWithin, allWithin, allOrdered}
 use Rattle.faults.specs.Checks.{badUnless, firstOf, onLine, andThen, linesOf}
@@ -63,7 +64,7 @@ accepted = refl
 -- "unique, 1"
 pub answer : jobRun job11 1 .verdict ≡ Verdict.Unique
 unfolding startOf runOf stepOf imageBox imageOf decideOf allMeet allInside allB meetsI insideI dOf bOf entryB eOf dotI
-    unitZ sumI carry addI negI scaleI wideI outI mulI midI
+    unitZ sumI carry addI negI scaleI wideI outI mulI powerI midI
     floorBy ceilBy minℤ maxℤ equationOver slopeOver termSlope termOver factorI lowered equationOf
     linearEquation unitE tab
 answer = refl

@@ -2,10 +2,10 @@
 -- of a term, then the sums of D, B and E.
 use Prim.Native.Nat.{_+_, _*_, _≤_}
 use lib.Dec.{lit≤}
-use Rattle.sizes.specs.Sizes.{mark, nMax, endMax, entryMax}
+use Rattle.sizes.specs.Sizes.{mark, nMax, entryMax}
 use Rattle.sizes.specs.Bounds.{termMax, valueMax, slopeMax, zMax, bMax, upMax}
 
-pub term-room : termMax * endMax ≤ upMax
+pub term-room : mark * termMax ≤ upMax
 term-room = lit≤ tt
 
 pub d-room : nMax * (entryMax * valueMax) ≤ upMax

@@ -1,14 +1,25 @@
--- A term as a loop makes it, unknown after unknown, and the two cases of its part of a slope.
+-- The two cases of a factor, a term as a loop makes it, unknown after unknown, and the two cases of its part of a slope.
 use mathlib.Core.Path.{_≡_, refl, ap, _∙_}
-use Prim.Native.Nat.{ℕ, suc, _+_, _≤_}
+use Prim.Native.Nat.{ℕ, suc, _+_, _<_, _≤_}
 use native.Mathlib.Nat.{le-antisymm}
+use native.Mathlib.Omega.{arith}
 use lib.IntN.{ℤ}
 use borrow.Author.Tests.{eq-eqb, ne-eqb}
 use Rattle.lists.specs.Loops.{carry}
 use Rattle.lists.proofs.Carry.{carry-none, carry-more}
-use Rattle.intervals.specs.Interval.{zeroI, pointI, scaleI}
+use Rattle.intervals.specs.Interval.{zeroI, pointI, scaleI, mulI}
+use Rattle.powers.specs.Powers.{powerI}
 use Rattle.intervals.specs.declared.Interval.{Interval}
 use Rattle.systems.specs.Terms.{factorI, termOver, lowered, termSlope}
+
+module _ (e : ℕ) (a x : Interval) where
+  pub factor-none : e ≡ 0 → factorI e a x ≡ a
+  unfolding factorI
+  factor-none h = rw (eq-eqb e 0 h)
+
+  pub factor-some : 0 < e → factorI e a x ≡ mulI a (powerI e x)
+  unfolding factorI
+  factor-some h = rw (ne-eqb e 0 (λ q. omega arith))
 
 module _ (c : ℤ) (e : ℕ → ℕ) (X : ℕ → Interval) where
   -- unknown k comes after those below it

@@ -40,6 +40,9 @@ module _ (e : ℕ → ℕ) where
   pub exponent-degree : (n j : ℕ) → j < n → e j ≤ degree n e
   exponent-degree n j l = omega (arith, degree-next j, degree-mono (suc j) n l)
 
+  pub exponents-in : {n m : ℕ} → degree n e ≤ m → (k : ℕ) → k < n → e k ≤ m
+  exponents-in {n} h k l = le-trans (exponent-degree n k l) h
+
   -- a lowered term has a degree one less
   pub degree-lowered : (n j : ℕ) → j < n → 0 < e j → degree n (lowered j e) + 1 ≡ degree n e
   unfolding degree carry

@@ -1,3 +1,4 @@
+pub mod Examples
 pub mod Exponents
 pub mod Degrees
 pub mod Cases
@@ -12,4 +13,3 @@ pub mod Interface
 pub mod Monomials
 pub mod Formulas
 pub mod Systems
-pub mod Examples

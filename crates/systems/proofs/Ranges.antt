@@ -1,22 +1,24 @@
 -- How large terms, equations and slopes can be: with document 01's sizes no sum leaves 64 bits. The bounds do not
 -- depend on n.
-use mathlib.Core.Path.{_≡_, refl, ap, _∙_}
+use mathlib.Core.Path.{_≡_, refl, sym, ap, _∙_}
 use mathlib.Core.List.{[]}
 use Prim.Native.Nat.{ℕ, zero, suc, _+_, _*_, _^_, _<_, _≤_}
-use native.Mathlib.Nat.{le-trans, le-refl, le-of-eq, not-suc-le-zero, mul-le-mul-right, pos-of-ne-zero}
+use native.Mathlib.Nat.{le-trans, le-refl, le-of-eq, mul-comm, mul-le-mul-left, mul-le-mul-right, pos-of-ne-zero}
 use native.Mathlib.Decide.{ℕ-discrete}
-use native.Mathlib.Numerals.{unary-clauses}
 use native.Mathlib.Omega.{arith}
 use lib.Dec.{lit<, lit≤}
 use lib.IntN.{ℤ}
 use lib.ListN.{getD}
-use Rattle.sizes.specs.Sizes.{termsMax, endMax, entryMax, degreeMax}
+use Rattle.sizes.specs.Sizes.{mark, termsMax, endMax, entryMax, degreeMax}
 use Rattle.lists.specs.Loops.{carry}
 use Rattle.intervals.specs.Interval.{sumI}
 use Rattle.intervals.specs.Ranges.{InI, FitsAdd, FitsTimes, FitsScale}
 use Rattle.intervals.proofs.Ranges.{in-zero, in-point, in-more, in-mul, in-scale}
 use Rattle.intervals.proofs.Ranges.{in-sum, fits-add, fits-times, fits-scale}
 use Rattle.intervals.specs.Places.{sideAt}
+use Rattle.powers.specs.Powers.{powerI}
+use Rattle.powers.specs.Ranges.{grow}
+use Rattle.powers.proofs.Ranges.{grow-add, grow-mono, grow-scale, in-power}
 use Rattle.jobs.specs.Terms.{degree}
 use Rattle.sizes.proofs.Sums.{term-room}
 use Rattle.sizes.specs.Bounds.{upMax, termMax, loweredMax, valueMax, partMax, slopeMax}
@@ -24,24 +26,11 @@ use Rattle.intervals.specs.declared.Interval.{Interval}
 use Rattle.jobs.specs.declared.Equation.{Equation}
 use Rattle.systems.specs.Terms.{coefOf, expsOf, factorI, termOver, equationOver, lowered}
 use Rattle.systems.specs.Terms.{termSlope, slopeOver, valuesOver, slopesOver}
-use Rattle.systems.specs.Ranges.{BoxIn, TermIn, EquationIn, SystemIn, FactorIn, grow}
-use Rattle.systems.proofs.Cases.{term-next, slope-none, slope-some}
+use Rattle.systems.specs.Ranges.{BoxIn, TermIn, EquationIn, SystemIn, FactorIn}
+use Rattle.systems.proofs.Cases.{factor-none, factor-some, term-next, slope-none, slope-some}
 use Rattle.systems.proofs.Exponents.{lowered-at}
 use Rattle.systems.proofs.Places.{values-at, slopes-at}
 use Rattle.systems.proofs.Degrees.{degree-next, degree-mono, degree-lowered, exponent-degree}
-
--- products one after another
-grow-add : (e d B : ℕ) → grow e (grow d B) ≡ grow (d + e) B
-unfolding grow
-grow-add zero d B = simp unary-clauses refl
-grow-add (suc e) d B = simp unary-clauses (ap (λ k. 4 * k) (grow-add e d B))
-
-grow-mono : (d e B : ℕ) → d ≤ e → grow d B ≤ grow e B
-unfolding grow
-grow-mono zero zero B l = le-refl B
-grow-mono zero (suc e) B l = let r = grow-mono zero e B (omega arith) in omega arith
-grow-mono (suc d) zero B l = absurd (not-suc-le-zero l)
-grow-mono (suc d) (suc e) B l = let r = grow-mono d e B (omega arith) in omega arith
 
 -- a coefficient multiplied at most 3 times
 cap : (d : ℕ) → d ≤ degreeMax → grow d entryMax ≤ termMax
@@ -51,17 +40,22 @@ cap d l = le-trans (grow-mono d degreeMax entryMax l) (unfold grow in (lit≤ tt
 lowered-cap : (d : ℕ) → d + 1 ≤ degreeMax → grow d entryMax ≤ loweredMax
 lowered-cap d l = le-trans (grow-mono d 2 entryMax (omega arith)) (unfold grow in (lit≤ tt))
 
-pub in-factor : {A : ℕ} {a x : Interval} (e : ℕ) → InI A a → InI endMax x → InI (grow e A) (factorI e a x)
-unfolding factorI carry grow
-in-factor zero h k = h
-in-factor (suc e) h k = in-mul _ (omega arith) (in-factor e h k) k
+-- the exact product with a power of e, before its rounding
+product-room : (e A : ℕ) → A * grow e mark ≤ mark * grow e A
+product-room e A = le-of-eq (grow-scale e A mark ∙ ap (grow e) (mul-comm A mark) ∙ sym (grow-scale e mark A))
 
--- what each product of a factor asks
-pub factor-fits : {e : ℕ} {a x : Interval} → FactorIn e a x → (i : ℕ) → i ≤ e → FitsTimes (factorI i a x) x
-factor-fits {e} p i l = fits-times room (in-factor i (p .start) (p .unknown)) (p .unknown)
+pub in-factor : {A : ℕ} {a x : Interval} (e : ℕ) → InI A a → InI endMax x → InI (grow e A) (factorI e a x)
+in-factor zero h k = unfold grow in (rw (factor-none 0 _ _ refl) h)
+in-factor {A} {a} {x} (suc e) h k =
+    rw (factor-some (suc e) a x (omega arith))
+    (in-mul (grow (suc e) A) (product-room (suc e) A) h (in-power k (suc e) (omega arith)))
+
+-- what the product of a factor asks
+pub factor-fits : {e : ℕ} {a x : Interval} → FactorIn e a x → 0 < e → FitsTimes a (powerI e x)
+factor-fits {e} p s = fits-times room (p .start) (in-power (p .unknown) e s)
   where
-    room : grow i (p .size) * endMax ≤ upMax
-    room = le-trans (mul-le-mul-right endMax (le-trans (grow-mono i e (p .size) l) (p .room))) term-room
+    room : p .size * grow e mark ≤ upMax
+    room = le-trans (product-room e (p .size)) (le-trans (mul-le-mul-left mark (p .room)) term-room)
 
 -- a lowered term is a term of document 01 too
 lowered-in : {n : ℕ} {c : ℤ} {e : ℕ → ℕ} (j : ℕ) → j < n → 0 < e j → TermIn n c e → TermIn n c (lowered j e)

@@ -6,6 +6,7 @@ use lib.IntN.{ℤ, pos, _*ℤ_}
 use lib.Signed.{_<ℤ_}
 use Rattle.sizes.specs.Sizes.{degreeMax}
 use Rattle.integers.specs.Sums.{sumTo}
+unfoldable pub use Rattle.powers.specs.Exact.{power}
 use Rattle.intervals.specs.Interval.{mark}
 use Rattle.intervals.specs.Fraction.{In}
 use Rattle.jobs.specs.Terms.{degree}
@@ -21,10 +22,6 @@ pub record InBox (n : ℕ) (P : ℕ → ℤ) (d : ℤ) (X : ℕ → Interval) : 
 -- what a unit is in the point's parts: 65,536 d
 abbrev pub unitsOf : ℤ → ℤ
 unitsOf d = d *ℤ pos mark
-
-unfoldable pub power : ℤ → ℕ → ℤ
-power x zero = pos 1
-power x (suc e) = power x e *ℤ x
 
 -- c times P 0 as often as its exponent says, then P 1 and so on
 unfoldable pub termNum : ℕ → ℤ → (ℕ → ℕ) → (ℕ → ℤ) → ℤ

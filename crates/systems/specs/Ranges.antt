@@ -1,10 +1,11 @@
 -- What the functions over a system ask of it, the sizes of document 01, which the check of a job's values establishes;
 -- and how large the results can be: "With these sizes every sum of products below fits a signed 64-bit number."
-use Prim.Native.Nat.{ℕ, zero, suc, _*_, _≤_, _<_}
+use Prim.Native.Nat.{ℕ, _≤_, _<_}
 use lib.IntN.{ℤ}
 use Rattle.sizes.specs.Sizes.{nMax, termsMax, endMax, entryMax, degreeMax}
 use Rattle.integers.specs.Ranges.{Within}
 use Rattle.intervals.specs.Ranges.{InI}
+use Rattle.powers.specs.Ranges.{grow}
 use Rattle.sizes.specs.Bounds.{termMax}
 use Rattle.intervals.specs.Places.{numberAt}
 use Rattle.jobs.specs.Places.{equationAt}
@@ -53,12 +54,7 @@ pub record JobIn (j : Job) : Type 0 where
   pub places : j .head .n ≤ nMax
   pub parts : PartsIn (j .head .kind) j
 
--- a product with an end of at most 4.0 makes a bound at most 4 times as large
-unfoldable pub grow : ℕ → ℕ → ℕ
-grow zero B = B
-grow (suc e) B = 4 * grow e B
-
--- what the multiplication of a by x, e times, asks
+-- what the multiplication of a by the power e of x asks
 pub record FactorIn (e : ℕ) (a x : Interval) : Type 0 where
   pub size : ℕ
   pub start : InI size a

@@ -1,6 +1,6 @@
--- Document 01, "The arithmetic": terms, equations and slopes over a box of n unknowns. A box is read by its places: X k
--- is the interval of unknown k. So are a term's exponents: e k is the exponent of unknown k. Unknown 1 of document 01
--- stands at place 0.
+-- Document 01, "The arithmetic", with document 02's powers: terms, equations and slopes over a box of n unknowns. A box
+-- is read by its places: X k is the interval of unknown k. So are a term's exponents: e k is the exponent of unknown k.
+-- Unknown 1 of document 01 stands at place 0.
 use mathlib.Core.Bool.{cond}
 use mathlib.Core.List.{List}
 use Prim.Native.Nat.{ℕ, _-_}
@@ -10,6 +10,7 @@ use lib.ListN.{replicate}
 use Rattle.sizes.specs.Sizes.{nMax}
 use Rattle.lists.specs.Loops.{tab, carry}
 use Rattle.intervals.specs.Interval.{zeroI, pointI, scaleI, mulI, sumI}
+use Rattle.powers.specs.Powers.{powerI}
 use Rattle.intervals.specs.Places.{vectorOf}
 use Rattle.jobs.specs.Places.{expOf, termAt}
 use Rattle.intervals.specs.declared.Interval.{Interval}
@@ -22,12 +23,12 @@ coefOf q t = termAt q t .coef
 abbrev pub expsOf : Equation → ℕ → ℕ → ℕ
 expsOf q t = expOf (termAt q t)
 
--- "multiply by unknown 1 as often as its exponent says", "rounding after each product"; "A square is a plain product
--- here."
+-- document 02, P5: "Form a power first .. then multiply the coefficient by the powers in unknown order", "rounding after
+-- each product"; an unknown that does not stand in the term makes no product
 unfoldable pub factorI : ℕ → Interval → Interval → Interval
-factorI e a x = carry e a (λ i p. mulI p x)
+factorI e a x = cond (eqb e 0) a (mulI a (powerI e x))
 
--- "Term over a box: begin with [c, c], multiply by unknown 1 .., then unknown 2 and so on"
+-- "Term over a box: begin with [c, c], multiply by" the power of "unknown 1 .., then unknown 2 and so on"
 unfoldable pub termOver : ℕ → ℤ → (ℕ → ℕ) → (ℕ → Interval) → Interval
 termOver n c e X = carry n (pointI c) (λ k a. factorI (e k) a (X k))
 

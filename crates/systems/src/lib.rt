@@ -20,16 +20,15 @@ ghost use Rattle.systems.specs.Kinds.{unitE, vectorE, eigenE, rowCoef, l
 ghost use Rattle.systems.specs.Kinds.{eigenEquation, equationOf, equationsOf};
 ghost use Rattle.systems.specs.Ranges.{FactorIn, BoxIn, TermIn, EquationIn, SystemIn, JobIn};
 
-// a multiplied by x as often as e says, rounding after each product.
+// a multiplied by the power e of x; without x there is no product.
 pub fn factor(a: Interval, x: Interval, e: u8) -> Interval
     requires { ⌜ FactorIn e a x ⌝ }
     ensures { λ r. ⌜ r ≡ factorI e a x ⌝ }
 {
-    let mut p = a;
-    for i in 0..e {
-        p = intervals::times(p, x);
+    if e == 0 {
+        return a;
     }
-    p
+    intervals::times(a, powers::power(x, e))
 }
 
 // "begin with [c, c]"

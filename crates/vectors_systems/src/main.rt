@@ -1,4 +1,4 @@
-// Prints F and S of three systems whose values were worked out by hand from document 01: job 41, T12 and two
+// Prints F and S of three systems whose values were worked out from documents 01 and 02: job 41, T12 and two
 // polynomials with mixed terms.
 use intervals::Interval;
 use jobs::Body;

@@ -1,36 +1,24 @@
--- factor: after i turns a is multiplied by x i times.
-use mathlib.Core.Path.{_≡_, _∙_}
-use Prim.Native.Nat.{_≤_, _-_}
-use native.Mathlib.Omega.{arith}
-use Rattle.lists.proofs.Carry.{carry-none, carry-more, carry-done}
-use Rattle.systems.specs.Terms.{factorI}
+-- factor: a itself for exponent 0, else its product with the power.
+use mathlib.Core.Path.{sym, ap, _∙_}
+use native.Mathlib.Nat.{pos-of-ne-zero}
+use Rattle.intervals.specs.Interval.{mulI}
+use Rattle.systems.proofs.Cases.{factor-none, factor-some}
 use Rattle.systems.proofs.Ranges.{factor-fits}
 use Rattle.systems.proofs.factor.Statement.{statement}
 use Rattle.systems.proofs.factor.Tie as tie
 
-abbrev Inv-loop : tie.InvT-loop
-Inv-loop x e p₀ i₀ p i = (i ≤ e) × (p ≡ factorI i p₀ x)
+returns : tie.Need-returns
+returns c = sym (factor-none _ _ _ (c .if1 .taken))
 
-abbrev μ-loop : tie.MeasureT-loop
-μ-loop x e p₀ i₀ p i = e - i
-
-loop-holds : tie.Need-loop-holds Inv-loop μ-loop
-unfolding factorI
-loop-holds c = (omega arith, carry-none _ _)
-
-times-requires : tie.Need-times-requires Inv-loop μ-loop
+times-requires : tie.Need-times-requires
 times-requires c κs =
-    rw (c .before .loop .inv .1) (factor-fits (c .before .before .pre) (c .before .loop .i) (omega arith))
+    rw (c .power .ensures) (factor-fits (c .before .before .pre) (pos-of-ne-zero (c .before .if1 .left)))
 
-loop-again : tie.Need-loop-again Inv-loop μ-loop
-unfolding factorI
-loop-again c = (omega arith, c .times .ensures ∙ carry-more _ _ _ (c .before .before .loop .inv .1))
-
-returns : tie.Need-returns Inv-loop μ-loop
-unfolding factorI
-returns c = carry-done _ _ (c .before .loop .inv .0) (c .loop-test .left) (c .before .loop .inv .1)
+returns-2 : tie.Need-returns-2
+returns-2 c =
+    let u = c .before .before in
+    c .times .ensures ∙ ap (mulI _) (c .before .power .ensures)
+    ∙ sym (factor-some _ _ _ (pos-of-ne-zero (u .if1 .left)))
 
 pub factor-spec : {M : Type 1} → statement M
-factor-spec =
-    tie.close
-    (tie.spec Inv-loop μ-loop loop-holds times-requires (λ c. omega arith) (λ c. omega arith) loop-again returns)
+factor-spec = tie.close (tie.spec returns (λ c κs. c .before .pre .unknown) times-requires returns-2)

@@ -1,0 +1,5 @@
+pub mod Examples
+pub mod Exact
+pub mod Squares
+pub mod Laws
+pub mod Ranges
