@@ -52,7 +52,7 @@ class Commands(unittest.TestCase):
 
     def test_version(self):
         for word in ("version", "--version"):
-            self.assertEqual(call(word), (0, b"floodrafter 1\n", ""))
+            self.assertEqual(call(word), (0, b"floodrafter 2\n", ""))
 
     def test_help(self):
         page = call("help")

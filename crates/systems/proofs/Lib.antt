@@ -1,4 +1,3 @@
-pub mod Examples
 pub mod Exponents
 pub mod Degrees
 pub mod Cases
@@ -13,3 +12,4 @@ pub mod Interface
 pub mod Monomials
 pub mod Formulas
 pub mod Systems
+pub mod Examples
