@@ -5,7 +5,7 @@ use Rattle.integers.specs.Least.{minℤ, maxℤ}
 use Rattle.integers.specs.Sums.{sumTo}
 use Rattle.lists.specs.Loops.{tab, carry, allB}
 use Rattle.intervals.specs.Interval.{addI, negI, sumI, scaleI, wideI, outI, mulI, midI, meetsI, insideI, cutI, sameI}
-use Rattle.powers.specs.Powers.{holdsZero, rangeI, squareI, cubeI, powerI}
+use Rattle.powers.specs.Powers.{holdsZero, squareRange, squareI, cubeI, powerI}
 use Rattle.matrices.specs.Products.{dotI, dOf, unitZ, entryB, bOf, eOf}
 use Rattle.jobs.specs.Ranges.{isWithin, allWithin, allOrdered}
 use Rattle.jobs.specs.Terms.{alike, falls, inOrder, goodTerm, goodPlace, goodTerms, goodCoefs, degree}
@@ -21,15 +21,18 @@ use Rattle.run.specs.Step.{imageOf}
 use Rattle.run.specs.Decide.{allMeet, allInside, cutSame, cutBox, decideOf}
 use Rattle.run.specs.Run.{imageBox, stepOf, runOf}
 use Rattle.run.specs.Job.{startOf, outcomeOf, resultOf, runJob}
-use Rattle.examples.specs.Table.{table, Holds}
+use Rattle.examples.specs.Table.{table, requests, Holds}
 
-pub marked-examples : Holds table
-unfolding floorBy ceilBy minℤ maxℤ sumTo tab carry allB addI negI sumI scaleI wideI outI mulI midI meetsI insideI cutI
-    sameI holdsZero rangeI squareI cubeI powerI dotI dOf unitZ entryB bOf eOf isWithin allWithin allOrdered alike falls inOrder goodTerm goodPlace goodTerms
-    goodCoefs andThen badUnless firstOf onLine linesOf goodUnknowns goodMatrix numberCheck unknownsCheck lowCheck
-    highCheck inverseCheck stepsCheck equationCheck rowCheck sidedCheck systemCheck lineCheck jobLineStatus systemLines
-    headLines bodyLines checkJob factorI termOver equationOver lowered termSlope slopeOver power termNum degree
-    equationNum unitE vectorE linearEquation eigenEquation equationOf imageOf allMeet allInside cutSame cutBox decideOf
-    imageBox stepOf runOf startOf outcomeOf resultOf runJob
-marked-examples =
-    (refl, (refl, (refl, (refl, (refl, (refl, (refl, (refl, (refl, (refl, (refl, (refl, (refl, (refl, (refl, (refl, tt))))))))))))))))
+pub marked-examples : Holds table × Holds requests
+unfolding floorBy ceilBy minℤ maxℤ sumTo tab carry allB addI negI sumI scaleI wideI outI mulI midI meetsI insideI
+    cutI sameI holdsZero squareRange squareI cubeI powerI dotI dOf unitZ entryB bOf eOf isWithin allWithin
+    allOrdered alike falls inOrder goodTerm goodPlace goodTerms goodCoefs andThen badUnless firstOf onLine linesOf
+    goodUnknowns goodMatrix numberCheck unknownsCheck lowCheck highCheck inverseCheck stepsCheck equationCheck
+    rowCheck sidedCheck systemCheck lineCheck jobLineStatus systemLines headLines bodyLines checkJob factorI
+    termOver equationOver lowered termSlope slopeOver power termNum degree equationNum unitE vectorE linearEquation
+    eigenEquation equationOf imageOf allMeet allInside cutSame cutBox decideOf imageBox stepOf runOf startOf
+    outcomeOf resultOf runJob
+marked-examples = (
+  (refl, (refl, (refl, (refl, (refl, (refl, (refl, (refl, (refl, (refl, (refl, (refl, (refl, (refl, tt)))))))))))))),
+  (refl, (refl, tt)),
+)

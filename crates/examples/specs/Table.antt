@@ -1,5 +1,5 @@
--- Document 01, "Marked examples T1 to T12": "T1 to T12 are proved as a single table under a single claim." Those of
--- document 02's requests stand after them.
+-- Document 01, "Marked examples T1 to T12": "T1 to T12 are proved as a single table under a single claim." Beside it
+-- the examples of document 02's requests.
 use mathlib.Core.Path.{_≡_}
 use mathlib.Core.List.{List, [], _∷_}
 use Prim.Native.Nat.{ℕ}
@@ -89,9 +89,14 @@ table =
     -- T12
     ∷ bothAre (valueAt job12 point12) (Thing.number (pos 0))
     ∷ bothAre (valueOver job12 point12) (Thing.interval zeroI)
+    ∷ []
+
+-- the examples of document 02's requests
+abbrev pub requests : List Example
+requests =
     -- P5: "[-1,1] marks squared becomes [0,1]"
-    ∷ squared (from (minus 1) (pos 1)) (from (pos 0) (pos 1))
-    -- and a symmetric hinge that stalled before
+    squared (from (minus 1) (pos 1)) (from (pos 0) (pos 1))
+    -- and one of "our symmetric hinges", which stalled before
     ∷ runs job304 Verdict.Unique 9 (from (pos 19961) (pos 24637) ∷ from (pos 58670) (pos 64738) ∷ [])
     ∷ []
 

@@ -21,7 +21,7 @@ use Rattle.integers.proofs.Least.{min-l, min-both, max-l, max-both}
 use Rattle.intervals.specs.declared.Interval.{Interval}
 use Rattle.intervals.specs.Ranges.{InI, FitsMul, FitsTimes}
 use Rattle.intervals.proofs.Ranges.{in-more, in-out, in-mul, fits-mul, fits-times, up-within}
-use Rattle.powers.specs.Powers.{holdsZero, rangeI, squareI, cubeI, powerI}
+use Rattle.powers.specs.Powers.{holdsZero, squareRange, squareI, cubeI, powerI}
 use Rattle.powers.specs.Ranges.{grow}
 
 -- ---- bounds that grow
@@ -57,8 +57,8 @@ module _ {x : Interval} (h : InI endMax x) where
   high-square : Within (x .hi *ℤ x .hi) (endMax * endMax)
   high-square = within-mul (h .high) (h .high)
 
-  in-range : InI (endMax * endMax) (rangeI x)
-  unfolding rangeI
+  in-range : InI (endMax * endMax) (squareRange x)
+  unfolding squareRange
   in-range = record {
     order = order (holdsZero x);
     low = low (holdsZero x);
@@ -95,7 +95,7 @@ module _ {x : Interval} (h : InI endMax x) where
   pub fits-range : FitsMul x x
   fits-range = fits-mul (lit≤ tt) h h
 
-  pub fits-square : Within (rangeI x .hi) upMax
+  pub fits-square : Within (squareRange x .hi) upMax
   fits-square = up-within (lit≤ tt) in-range
 
   pub fits-cube : FitsTimes (squareI x) x

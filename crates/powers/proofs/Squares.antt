@@ -17,7 +17,7 @@ use Rattle.intervals.specs.Interval.{mark, wideI}
 use Rattle.intervals.specs.Fraction.{In}
 use Rattle.intervals.specs.declared.Interval.{Interval}
 use Rattle.intervals.proofs.Hold.{hold-order, hold-mean, hold-wide, hold-out}
-use Rattle.powers.specs.Powers.{holdsZero, rangeI, squareI}
+use Rattle.powers.specs.Powers.{holdsZero, squareRange, squareI}
 
 -- ---- the products of X's ends lie below the high end of the square, and above its low end where X does not hold 0
 module _ (a b : ℤ) (order : a ≤ℤ b) where
@@ -42,8 +42,8 @@ module _ (a b : ℤ) (order : a ≤ℤ b) where
           (λ p. let n : pos 0 ≤ℤ a = omega zorder in omega (zorder, min-l (a *ℤ a) (b *ℤ b), mul-mono-l order n))
           (λ p. let n : b ≤ℤ pos 0 = omega zorder in omega (zorder, min-r (a *ℤ a) (b *ℤ b), mul-anti-r order n)) side
 
-range-holds : {u U : ℤ} {X : Interval} → X .lo ≤ℤ X .hi → pos 0 ≤ℤ u → In u U (wideI X X) → In u U (rangeI X)
-unfolding rangeI holdsZero wideI
+range-holds : {u U : ℤ} {X : Interval} → X .lo ≤ℤ X .hi → pos 0 ≤ℤ u → In u U (wideI X X) → In u U (squareRange X)
+unfolding squareRange holdsZero wideI
 range-holds {u} {U} {X} o p h = record {
   den = h .den;
   low = low (leZ (X .lo) (pos 0)) (leZ (pos 0) (X .hi)) refl refl;
@@ -69,7 +69,8 @@ module _ {x d : ℤ} {X : Interval} (h : In x d X) where
       → In (x *ℤ x +ℤ x *ℤ y +ℤ y *ℤ y) ((d *ℤ d +ℤ d *ℤ d +ℤ d *ℤ d) *ℤ pos mark) (squareI X)
   unfolding squareI
   hold-third {y} k =
-      hold-out (range-holds (hold-order h) above (hold-mean (hold-mean (hold-wide h h) (hold-wide h k)) (hold-wide k k)))
+      hold-out
+      (range-holds (hold-order h) above (hold-mean (hold-mean (hold-wide h h) (hold-wide h k)) (hold-wide k k)))
     where
       four : pos 4 *ℤ (x *ℤ x +ℤ x *ℤ y +ℤ y *ℤ y) ≡ (pos 2 *ℤ x +ℤ y) *ℤ (pos 2 *ℤ x +ℤ y) +ℤ pos 3 *ℤ (y *ℤ y)
       four =

@@ -14,15 +14,15 @@ unfoldable pub holdsZero : Interval → Bool
 holdsZero x = both (leZ (x .lo) (pos 0)) (leZ (pos 0) (x .hi))
 
 -- "the true range of the square (low end 0 when the box holds 0)", exact
-unfoldable pub rangeI : Interval → Interval
-rangeI x = record {
+unfoldable pub squareRange : Interval → Interval
+squareRange x = record {
   lo = cond (holdsZero x) (pos 0) (minℤ (x .lo *ℤ x .lo) (x .hi *ℤ x .hi));
   hi = maxℤ (x .lo *ℤ x .lo) (x .hi *ℤ x .hi);
 }
 
 -- "exponent 2 is the true range of the square .., rounded outward"
 unfoldable pub squareI : Interval → Interval
-squareI x = outI (rangeI x)
+squareI x = outI (squareRange x)
 
 -- "exponent 3 is that square times the unknown, .. rounded outward"
 unfoldable pub cubeI : Interval → Interval

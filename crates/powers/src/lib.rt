@@ -3,7 +3,7 @@ use intervals::Interval;
 ghost use mathlib.Core.Path.{_≡_};
 ghost use Rattle.sizes.specs.Sizes.{endMax};
 ghost use Rattle.intervals.specs.Ranges.{InI};
-ghost use Rattle.powers.specs.Powers.{holdsZero, rangeI, squareI, cubeI, powerI};
+ghost use Rattle.powers.specs.Powers.{holdsZero, squareRange, squareI, cubeI, powerI};
 
 // Both ends belong to the interval.
 pub fn holds_zero(x: Interval) -> bool
@@ -15,7 +15,7 @@ pub fn holds_zero(x: Interval) -> bool
 // The exact range of the square.
 pub fn square_range(x: Interval) -> Interval
     requires { ⌜ InI endMax x ⌝ }
-    ensures { λ r. ⌜ r ≡ rangeI x ⌝ }
+    ensures { λ r. ⌜ r ≡ squareRange x ⌝ }
 {
     let l = x.lo;
     let h = x.hi;

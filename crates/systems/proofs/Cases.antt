@@ -1,4 +1,5 @@
--- The two cases of a factor, a term as a loop makes it, unknown after unknown, and the two cases of its part of a slope.
+-- The two cases of a factor, a term as a loop makes it, unknown after unknown, and the two cases of its part of a
+-- slope.
 use mathlib.Core.Path.{_≡_, refl, ap, _∙_}
 use Prim.Native.Nat.{ℕ, suc, _+_, _<_, _≤_}
 use native.Mathlib.Nat.{le-antisymm}

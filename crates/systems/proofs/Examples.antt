@@ -14,7 +14,7 @@ use Rattle.integers.specs.Least.{minℤ, maxℤ}
 use Rattle.intervals.specs.Interval.{mark, addI, sumI, scaleI, wideI, outI, mulI}
 use Rattle.intervals.specs.Places.{sideAt}
 use Rattle.intervals.specs.declared.Interval.{Interval}
-use Rattle.powers.specs.Powers.{holdsZero, rangeI, squareI, powerI}
+use Rattle.powers.specs.Powers.{holdsZero, squareRange, squareI, powerI}
 use Rattle.jobs.specs.Terms.{degree}
 use Rattle.jobs.specs.declared.Kind.{Kind}
 use Rattle.jobs.specs.declared.Equation.{Equation}
@@ -40,15 +40,15 @@ coefficient-first = refl
 -- at a point too: twice the rounded square of a mark
 pub square-at-point : equationOver 1 (term (pos 131072) (2 ∷ [])) (sideAt (from (pos 1) (pos 1) ∷ []))
     ≡ from (pos 0) (pos 2)
-unfolding equationOver termOver factorI powerI squareI rangeI holdsZero sumI addI mulI outI wideI
-    minℤ maxℤ floorBy ceilBy carry
+unfolding equationOver termOver factorI powerI squareI squareRange holdsZero
+    sumI addI mulI outI wideI minℤ maxℤ floorBy ceilBy carry
 square-at-point = refl
 
 -- "Slopes use the same powers": that of x³ over [-1.0, 1.0] is three times the square, [0, 1.0]
 pub slope-of-cube : slopeOver 1 (term (pos 65536) (3 ∷ [])) 0 (sideAt (from (negsuc 65535) (pos 65536) ∷ []))
     ≡ from (pos 0) (pos 196608)
-unfolding slopeOver termSlope lowered termOver factorI powerI squareI rangeI holdsZero sumI addI scaleI mulI outI wideI
-    minℤ maxℤ floorBy ceilBy carry
+unfolding slopeOver termSlope lowered termOver factorI powerI squareI squareRange holdsZero
+    sumI addI scaleI mulI outI wideI minℤ maxℤ floorBy ceilBy carry
 slope-of-cube = refl
 
 abbrev eigenJob : ℕ → List Row → Job

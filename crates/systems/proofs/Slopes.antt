@@ -86,7 +86,8 @@ module _ (c : ℤ) (e : ℕ → ℕ) (P R : ℕ → ℤ) (d : ℤ) (X : ℕ → 
   hold-part zero j g h k l a f = absurd (not-suc-le-zero l)
   hold-part (suc n) j g h k l a f =
       ⊎-elim here
-      (λ m. there m (hold-part n j (λ i b. g i (omega arith)) (λ i b. h i (omega arith)) (λ i b. k i (omega arith)) m a f))
+      (λ m.
+      there m (hold-part n j (λ i b. g i (omega arith)) (λ i b. h i (omega arith)) (λ i b. k i (omega arith)) m a f))
       (eq-or-lt-of-le (le-of-suc-le-suc l))
     where
       here : j ≡ n → PartIn (suc n) j

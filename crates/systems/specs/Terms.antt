@@ -23,8 +23,8 @@ coefOf q t = termAt q t .coef
 abbrev pub expsOf : Equation → ℕ → ℕ → ℕ
 expsOf q t = expOf (termAt q t)
 
--- document 02, P5: "Form a power first .. then multiply the coefficient by the powers in unknown order", "rounding after
--- each product"; an unknown that does not stand in the term makes no product
+-- document 02, P5: "Form a power first .. then multiply the coefficient by the powers in unknown order", "rounding
+-- after each product"; an unknown that does not stand in the term makes no product
 unfoldable pub factorI : ℕ → Interval → Interval → Interval
 factorI e a x = cond (eqb e 0) a (mulI a (powerI e x))
 

@@ -7,7 +7,7 @@ use mir.Syntax.{w64}
 use mir.Val.{SFits}
 use Rattle.integers.proofs.Machine.{got}
 use Rattle.intervals.proofs.Ends.{ends}
-use Rattle.powers.specs.Powers.{holdsZero, rangeI}
+use Rattle.powers.specs.Powers.{holdsZero, squareRange}
 use Rattle.powers.proofs.Ranges.{fits-range}
 use Rattle.powers.proofs.square_range.Statement.{statement}
 use Rattle.powers.proofs.square_range.Tie as tie
@@ -19,7 +19,7 @@ mul-q : tie.Need-mul-q
 mul-q c = let fit = fits-range (c .before .before .pre) in search needs
 
 returns : tie.Need-returns
-unfolding rangeI
+unfolding squareRange
 returns c =
     let s = c .before .before .before .before .before in
     let l : SFits w64 (s .args .x .lo) = search needs in
@@ -30,7 +30,7 @@ returns c =
     ends (simp around) (simp (high, toZ-ofZ, l, h, fit .ll, fit .hh))
 
 returns-2 : tie.Need-returns-2
-unfolding rangeI
+unfolding squareRange
 returns-2 c =
     let s = c .before .before .before .before .before .before in
     let l : SFits w64 (s .args .x .lo) = search needs in
