@@ -24,7 +24,7 @@ use Rattle.scan.specs.declared.ListAt.{ListAt}
 use Rattle.scan.specs.Lines.{lineOf, endedAnd, listAtOf, placesOf, ListFrom}
 use Rattle.scan.specs.Lines as scan
 use Rattle.term_read.specs.declared.TermsAt.{TermsAt}
-use Rattle.term_read.specs.Lines.{termsOf, TermsFrom}
+use Rattle.term_read.specs.Lines.{TermsOf, TermsFrom}
 use Rattle.term_read.proofs.Near.{near-coefs}
 use Rattle.lines.specs.Found.{found}
 use Rattle.lines.specs.Lines.{misspelled, numbersOf, termsBy, equationOf}
@@ -86,19 +86,19 @@ after-spells f h t a p = rw (line-after Fault.Spelling f h t a) (spells-after (s
 
 pub terms-spell : (n : ℕ) (t : List ℕ) (a : ℕ) {r : TermsAt} → TermsFrom (readEquation n) t a r
     → Spells (said (λ l. termsIs (readEquation n l)) t a) (onward t a) (termsFound r) (r .next) (r .equation)
-unfolding lineAt termsIs termsFound termsOf firstOf badUnless
-terms-spell n t a {r} w = rw odd-line (go (endedAnd t a (those .ok)) w)
+unfolding lineAt termsIs termsFound TermsOf firstOf badUnless
+terms-spell n t a {r} w = rw odd-line (go (endedAnd t a (those .ok)) (w .answer))
   where
     those : Terms
     those = readEquation n (lineOf t a)
 
-    near : (f : Bool) → those .far ≡ f → r ≡ termsOf true those (lineEnd t a)
+    near : (f : Bool) → those .far ≡ f → TermsOf true those (lineEnd t a) r
         → Spells (refuse f Fault.Beyond (Got.got (those .equation))) (onward t a) (termsFound r) (r .next)
         (r .equation)
     near true z p = rw (p, z) (spells-bad Fault.Beyond refl)
     near false z p = rw (p, z) (spells-fine _ refl refl refl)
 
-    go : (b : Bool) → r ≡ termsOf b those (lineEnd t a)
+    go : (b : Bool) → TermsOf b those (lineEnd t a) r
         → Spells (cond b (refuse (those .far) Fault.Beyond (Got.got (those .equation))) misspelled)
         (onward t a) (termsFound r) (r .next) (r .equation)
     go true p = near (those .far) refl p
@@ -108,19 +108,19 @@ terms-spell n t a {r} w = rw odd-line (go (endedAnd t a (those .ok)) w)
 pub shape-alone : (n : ℕ) (t : List ℕ) (a : ℕ) {r : TermsAt} → TermsFrom (readEquation n) t a r
     → firstOf (termsFound r) (badUnless (goodTerms (r .equation) n) Fault.Terms)
     ≡ firstOf (termsFound r) (equationCheck n (r .equation))
-unfolding termsFound termsOf firstOf badUnless equationCheck
-shape-alone n t a {r} w = go (endedAnd t a (those .ok)) w
+unfolding termsFound TermsOf firstOf badUnless equationCheck
+shape-alone n t a {r} w = go (endedAnd t a (those .ok)) (w .answer)
   where
     those : Terms
     those = readEquation n (lineOf t a)
 
-    near : (f : Bool) → those .far ≡ f → r ≡ termsOf true those (lineEnd t a)
+    near : (f : Bool) → those .far ≡ f → TermsOf true those (lineEnd t a) r
         → firstOf (termsFound r) (badUnless (goodTerms (r .equation) n) Fault.Terms)
         ≡ firstOf (termsFound r) (equationCheck n (r .equation))
     near true z p = rw (p, z)
     near false z p = rw (p, z, near-coefs n (lineOf t a) z)
 
-    go : (b : Bool) → r ≡ termsOf b those (lineEnd t a)
+    go : (b : Bool) → TermsOf b those (lineEnd t a) r
         → firstOf (termsFound r) (badUnless (goodTerms (r .equation) n) Fault.Terms)
         ≡ firstOf (termsFound r) (equationCheck n (r .equation))
     go true p = near (those .far) refl p

@@ -15,6 +15,7 @@ use line_read::SidedLine;
 use scan::lines::list_at;
 use sizes::N;
 use term_read::TermsAt;
+use term_read::bounded;
 use term_read::terms_at;
 use text::PLACES;
 ghost use mathlib.Core.Path.{_≡_};
@@ -87,14 +88,6 @@ fn judged_equation(f: Finding, equation: Equation, next: usize) -> EquationLine
             next: 0,
         },
     }
-}
-
-// n itself. Where the compiler sees that a count is at most N, it unrolls the loops that go so far.
-fn bounded(n: usize) -> usize
-    requires { ⌜ n ≤ nMax ⌝ }
-    ensures { λ r. ⌜ r ≡ n ⌝ }
-{
-    if n < N { n } else { N }
 }
 
 // Where no coefficient is beyond its size, the check of an equation is that of its terms.

@@ -9,7 +9,9 @@ use Rattle.faults.specs.declared.Fault.{Fault}
 use Rattle.faults.specs.declared.Finding.{Finding}
 use Rattle.slips.specs.declared.Field.{Field}
 use Rattle.slips.specs.declared.Form.{Form}
+use Rattle.slips.specs.declared.WrongTerm.{WrongTerm}
 use Rattle.slips.specs.declared.LineSlip.{LineSlip}
+use Rattle.slips.specs.declared.Unlike.{Unlike}
 use Rattle.slips.specs.declared.Misspelling.{Misspelling}
 use Rattle.slips.specs.declared.Spelled.{Spelled}
 use Rattle.slips.specs.declared.Far.{Far}
@@ -17,8 +19,8 @@ use Rattle.slips.specs.declared.Crossing.{Crossing}
 use Rattle.slips.specs.declared.TermSlip.{TermSlip}
 use Rattle.slips.specs.declared.Slip.{Slip}
 use Rattle.slips.specs.Slips.{faultOf}
-use Rattle.sentences.specs.Sentences.{lineSlipWords, misspelledWords, farWords, crossedWords, termWords}
-use Rattle.sentences.specs.Sentences.{slipWords}
+use Rattle.sentences.specs.Sentences.{lineSlipWords, unlikeWords, wrongTermWords, misspelledWords}
+use Rattle.sentences.specs.Sentences.{farWords, crossedWords, termWords, slipWords}
 
 zero-one : _≡_ {A = ℕ} 0 1 → ⊥
 zero-one e = omega arith
@@ -31,32 +33,40 @@ some : (bs : List ℕ) → begun bs ≡ true → 0 < length bs
 some [] e = absurd (zero-one (cc))
 some (b ∷ bs) e = omega arith
 
-line-some : (line : ℕ) (form : Form) (slip : LineSlip) → begun (lineSlipWords line form slip) ≡ true
+line-some : (line : ℕ) (slip : LineSlip) → begun (lineSlipWords line slip) ≡ true
 unfolding lineSlipWords
-line-some line form LineSlip.Gone = refl
-line-some line form LineSlip.Extra = refl
-line-some line form LineSlip.Hollow = refl
-line-some line form LineSlip.NoFeed = refl
-line-some line form LineSlip.Return = refl
-line-some line form LineSlip.Blank = refl
-line-some line form LineSlip.Capital = refl
-line-some line form LineSlip.NoKey = refl
-line-some line form LineSlip.Word = refl
-line-some line form LineSlip.Digit = refl
+line-some line LineSlip.Extra = refl
+line-some line LineSlip.NoFeed = refl
+line-some line LineSlip.Return = refl
+line-some line LineSlip.Blank = refl
+
+unlike-some : (line : ℕ) (slip : Unlike) (form : Form) → begun (unlikeWords line slip form) ≡ true
+unfolding unlikeWords
+unlike-some line Unlike.Gone form = refl
+unlike-some line Unlike.Hollow form = refl
+unlike-some line Unlike.Capital form = refl
+unlike-some line Unlike.NoKey form = refl
+unlike-some line Unlike.Word form = refl
+unlike-some line Unlike.Digit form = refl
+
+wrong-some : (n k : ℕ) (wrong : WrongTerm) (form : Form) → begun (wrongTermWords n k wrong form) ≡ true
+unfolding wrongTermWords
+wrong-some n k WrongTerm.NoExponents form = refl
+wrong-some n k (WrongTerm.Exponents found) form = refl
+wrong-some n k WrongTerm.After form = refl
 
 misspelled-some : (s : Spelled) (m : Misspelling) → begun (misspelledWords s m) ≡ true
 unfolding misspelledWords
 misspelled-some s Misspelling.Empty = refl
 misspelled-some s Misspelling.OrderMark = refl
-misspelled-some s (Misspelling.Line slip) = line-some (s .line) (s .form) slip
-misspelled-some s (Misspelling.OtherKey key) = refl
+misspelled-some s (Misspelling.Line slip) = line-some (s .line) slip
+misspelled-some s (Misspelling.Unlike slip) = unlike-some (s .line) slip (s .form)
+misspelled-some s (Misspelling.OtherKey own key) = refl
 misspelled-some s (Misspelling.Number Field.Only wrong) = refl
 misspelled-some s (Misspelling.Number (Field.Number k) wrong) = refl
 misspelled-some s (Misspelling.Number (Field.Coefficient k) wrong) = refl
 misspelled-some s (Misspelling.Count expected found) = refl
-misspelled-some s (Misspelling.NoExponents k) = refl
-misspelled-some s (Misspelling.AfterTerm k) = refl
-misspelled-some s (Misspelling.Exponents k found) = refl
+misspelled-some s (Misspelling.Term k wrong) = wrong-some (s .n) k wrong (s .form)
 
 far-some : (far : Far) → begun (farWords far) ≡ true
 unfolding farWords

@@ -10,7 +10,9 @@ use Rattle.slips.specs.declared.Key.{Key}
 use Rattle.slips.specs.declared.Form.{Form}
 use Rattle.slips.specs.declared.Field.{Field}
 use Rattle.slips.specs.declared.Wrong.{Wrong}
+use Rattle.slips.specs.declared.WrongTerm.{WrongTerm}
 use Rattle.slips.specs.declared.LineSlip.{LineSlip}
+use Rattle.slips.specs.declared.Unlike.{Unlike}
 use Rattle.slips.specs.declared.Misspelling.{Misspelling}
 use Rattle.slips.specs.declared.Spelled.{Spelled}
 use Rattle.slips.specs.declared.Far.{Far}
@@ -20,7 +22,7 @@ use Rattle.slips.specs.declared.Slip.{Slip}
 use Rattle.slips.specs.Slips.{faultOf}
 use Rattle.sentences.specs.Ascii.{ascii}
 use Rattle.sentences.specs.Words.{valueWords, keyWords, expectedWords, fieldWords, wrongWords}
-use Rattle.sentences.specs.Words.{counted, someWords, ownKeyWords}
+use Rattle.sentences.specs.Words.{countWords, counted, someWords}
 use Rattle.sentences.specs.Says.{sentenceMax}
 
 -- ---- fault 2
@@ -33,9 +35,9 @@ lineWords line words = counted (ascii "line ") line words
 abbrev pub lineNot : ℕ → List ℕ → Form → List ℕ
 lineNot line words form = lineWords line words ++ expectedWords form
 
-abbrev pub otherKeyWords : ℕ → Key → Form → List ℕ
-otherKeyWords line key form =
-    lineWords line (ascii " begins with ") ++ keyWords key ++ ascii ", " ++ ownKeyWords form ++ ascii " is expected"
+abbrev pub otherKeyWords : ℕ → Key → Key → List ℕ
+otherKeyWords line own key =
+    lineWords line (ascii " begins with ") ++ keyWords key ++ ascii ", " ++ keyWords own ++ ascii " is expected"
 
 abbrev pub numberNot : Field → Wrong → Form → List ℕ
 numberNot field wrong form = fieldWords field ++ wrongWords wrong ++ expectedWords form
@@ -61,34 +63,40 @@ emptyWords form = ascii "the text is empty" ++ expectedWords form
 abbrev pub markWords : List ℕ
 markWords = ascii "the text begins with a byte order mark: save it as plain text without one"
 
-unfoldable pub lineSlipWords : ℕ → Form → LineSlip → List ℕ
-lineSlipWords line form LineSlip.Gone = lineNot line (ascii " is missing") form
-lineSlipWords line form LineSlip.Extra = lineWords line (ascii " is one too many: the line before it is the last")
-lineSlipWords line form LineSlip.Hollow = lineNot line (ascii " is empty") form
-lineSlipWords line form LineSlip.NoFeed = lineWords line (ascii " has no line feed: press Enter at its end")
-lineSlipWords line form LineSlip.Return = lineWords line (ascii " has a carriage return: save with Unix line ends")
-lineSlipWords line form LineSlip.Blank = lineWords line (ascii " has a blank or a tab: write it with none")
-lineSlipWords line form LineSlip.Capital = lineNot line (ascii " has a capital letter: all are small") form
-lineSlipWords line form LineSlip.NoKey = lineNot line (ascii " does not begin with its key") form
-lineSlipWords line form LineSlip.Word = lineNot line (ascii " has another word") form
-lineSlipWords line form LineSlip.Digit = lineNot line (ascii " has not just one digit") form
+unfoldable pub lineSlipWords : ℕ → LineSlip → List ℕ
+lineSlipWords line LineSlip.Extra = lineWords line (ascii " is one too many: the line before it is the last")
+lineSlipWords line LineSlip.NoFeed = lineWords line (ascii " has no line feed: press Enter at its end")
+lineSlipWords line LineSlip.Return = lineWords line (ascii " has a carriage return: save with Unix line ends")
+lineSlipWords line LineSlip.Blank = lineWords line (ascii " has a blank or a tab: write it with none")
+
+unfoldable pub unlikeWords : ℕ → Unlike → Form → List ℕ
+unlikeWords line Unlike.Gone form = lineNot line (ascii " is missing") form
+unlikeWords line Unlike.Hollow form = lineNot line (ascii " is empty") form
+unlikeWords line Unlike.Capital form = lineNot line (ascii " has a capital letter: all are small") form
+unlikeWords line Unlike.NoKey form = lineNot line (ascii " does not begin with its key") form
+unlikeWords line Unlike.Word form = lineNot line (ascii " has another word") form
+unlikeWords line Unlike.Digit form = lineNot line (ascii " has not just one digit") form
+
+unfoldable pub wrongTermWords : ℕ → ℕ → WrongTerm → Form → List ℕ
+wrongTermWords n k WrongTerm.NoExponents form = termNot k (ascii " has no exponents") form
+wrongTermWords n k (WrongTerm.Exponents found) form = exponentsNot n k found
+wrongTermWords n k WrongTerm.After form = termNot k (ascii " is not followed by a comma") form
 
 unfoldable pub misspelledWords : Spelled → Misspelling → List ℕ
 misspelledWords s Misspelling.Empty = emptyWords (s .form)
 misspelledWords s Misspelling.OrderMark = markWords
-misspelledWords s (Misspelling.Line slip) = lineSlipWords (s .line) (s .form) slip
-misspelledWords s (Misspelling.OtherKey key) = otherKeyWords (s .line) key (s .form)
+misspelledWords s (Misspelling.Line slip) = lineSlipWords (s .line) slip
+misspelledWords s (Misspelling.Unlike slip) = unlikeWords (s .line) slip (s .form)
+misspelledWords s (Misspelling.OtherKey own key) = otherKeyWords (s .line) own key
 misspelledWords s (Misspelling.Number field wrong) = numberNot field wrong (s .form)
 misspelledWords s (Misspelling.Count expected found) = countNot (s .n) expected found
-misspelledWords s (Misspelling.NoExponents k) = termNot k (ascii " has no exponents") (s .form)
-misspelledWords s (Misspelling.AfterTerm k) = termNot k (ascii " is not followed by a comma") (s .form)
-misspelledWords s (Misspelling.Exponents k found) = exponentsNot (s .n) k found
+misspelledWords s (Misspelling.Term k wrong) = wrongTermWords (s .n) k wrong (s .form)
 
 -- ---- faults 4, 5 and 6
 
 -- from -m to m
 abbrev pub rangeWords : List ℕ → ℕ → List ℕ
-rangeWords words m = words ++ counted (ascii " lie from -") m (ascii " to ") ++ counted [] m []
+rangeWords words m = words ++ counted (ascii " lie from -") m (ascii " to ") ++ countWords m
 
 -- the number at a place is v, and of what size such numbers are
 abbrev pub farNot : List ℕ → ℕ → ℤ → List ℕ → ℕ → List ℕ
@@ -115,7 +123,7 @@ crossedWords Crossing.Unplaced = ascii "no high end may be below its low end"
 
 abbrev pub manyWords : ℕ → List ℕ
 manyWords count =
-    counted (ascii "an equation has at most ") termsMax (ascii " terms, this one has ") ++ counted [] count []
+    counted (ascii "an equation has at most ") termsMax (ascii " terms, this one has ") ++ countWords count
 
 abbrev pub degreeWords : ℕ → ℕ → List ℕ
 degreeWords k d =
@@ -142,7 +150,7 @@ termWords TermSlip.Unplaced = ascii "terms stand in strictly falling order of th
 -- ---- every slip
 
 abbrev pub unknownsWords : ℕ → List ℕ
-unknownsWords n = counted (ascii "there are 1 to ") nMax (ascii " unknowns, not ") ++ counted [] n []
+unknownsWords n = counted (ascii "there are 1 to ") nMax (ascii " unknowns, not ") ++ countWords n
 
 abbrev pub stepsWords : ℤ → List ℕ
 stepsWords v = ascii "steps is " ++ valueWords v ++ counted (ascii ": it lies from 0 to ") stepsMax []

@@ -37,19 +37,6 @@ keyWords Key.Eq = eqKey
 keyWords Key.Row = rowKey
 keyWords Key.Verdict = verdictKey
 
--- the key that a line must begin with
-abbrev pub ownKeyWords : Form → List ℕ
-ownKeyWords Form.Number = jobKey
-ownKeyWords Form.Kind = kindKey
-ownKeyWords Form.Unknowns = nKey
-ownKeyWords (Form.Numbers key m) = keyWords key
-ownKeyWords (Form.Sided m) = rowKey
-ownKeyWords (Form.Terms n) = eqKey
-ownKeyWords Form.Steps = stepsKey
-ownKeyWords Form.Verdict = verdictKey
-ownKeyWords Form.Low = loKey
-ownKeyWords Form.Nothing = []
-
 -- words, a count, words
 abbrev pub counted : List ℕ → ℕ → List ℕ → List ℕ
 counted before m after = before ++ countWords m ++ after

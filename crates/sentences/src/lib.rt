@@ -3,6 +3,7 @@ mod parts;
 mod spelled;
 mod values;
 
+use parts::put_count;
 use parts::put_value;
 use parts::tell;
 use sizes::N;
@@ -18,6 +19,7 @@ use values::put_terms;
 use writing::put_bytes;
 ghost use Rattle.job_form.specs.JobForm.{readJob};
 ghost use Rattle.result_form.specs.ResultForm.{readResult};
+ghost use Rattle.slips.specs.declared.Slip.{Slip};
 ghost use Rattle.slips.specs.Slips.{foundIn};
 ghost use Rattle.sentences.specs.Says.{Says, sentenceMax};
 ghost use Rattle.sentences.specs.Sentences.{unknownsWords, stepsWords, slipWords, Explains};
@@ -25,11 +27,29 @@ ghost use Rattle.sentences.specs.Sentences.{unknownsWords, stepsWords, s
 // The longest sentence: a buffer of this size has room for any.
 pub const SENTENCE: usize = 256;
 
-fn put_unknowns(out: &mut [u8], n: u64) -> usize
+fn put_long(out: &mut [u8]) -> usize
+    ensures { λ r. ⌜ Says sentenceMax (now (out .entry)) (now (out .exit)) 0 r (slipWords Slip.Long) ⌝ }
+{
+    tell(
+        out,
+        0,
+        b"a text has at most ",
+        TEXT as u64,
+        b" bytes, this one has more",
+    )
+}
+
+fn put_short(out: &mut [u8]) -> usize
+    ensures { λ r. ⌜ Says sentenceMax (now (out .entry)) (now (out .exit)) 0 r (slipWords Slip.Short) ⌝ }
+{
+    put_bytes(out, 0, b"the answer is longer than its buffer")
+}
+
+fn put_unknowns(out: &mut [u8], n: usize) -> usize
     ensures { λ r. ⌜ Says sentenceMax (now (out .entry)) (now (out .exit)) 0 r (unknownsWords n) ⌝ }
 {
     let a = tell(out, 0, b"there are 1 to ", N as u64, b" unknowns, not ");
-    tell(out, a, b"", n, b"")
+    put_count(out, a, n as u64)
 }
 
 fn put_steps(out: &mut [u8], v: i64) -> usize
@@ -45,19 +65,13 @@ fn put_slip(out: &mut [u8], slip: Slip) -> usize
 {
     match slip {
         Slip::Nothing => 0,
-        Slip::Long => tell(
-            out,
-            0,
-            b"a text has at most ",
-            TEXT as u64,
-            b" bytes, this one has more",
-        ),
+        Slip::Long => put_long(out),
         Slip::Spelled(s) => put_misspelled(out, s),
-        Slip::Unknowns(n) => put_unknowns(out, n as u64),
+        Slip::Unknowns(n) => put_unknowns(out, n),
         Slip::Beyond(far) => put_far(out, far),
         Slip::Crossed(at) => put_crossed(out, at),
         Slip::Terms(slip) => put_terms(out, slip),
-        Slip::Short => put_bytes(out, 0, b"the answer is longer than its buffer"),
+        Slip::Short => put_short(out),
         Slip::Steps(v) => put_steps(out, v),
     }
 }

@@ -9,9 +9,11 @@ use writing::put_bytes;
 use writing::put_magnitude;
 use writing::put_number;
 ghost use Prim.Native.Nat.{_+_, _≤_};
+ghost use mathlib.Core.List.{[]};
 ghost use lib.ListN.{length};
+ghost use Rattle.slips.specs.declared.Form.{Form};
 ghost use Rattle.sentences.specs.Says.{Says, keyMost, valueMost, fieldMost, wrongMost, formMost, expectedMost};
-ghost use Rattle.sentences.specs.Words.{countDigits, valueWords, keyWords, ownKeyWords, counted};
+ghost use Rattle.sentences.specs.Words.{countDigits, countWords, valueWords, keyWords, counted};
 ghost use Rattle.sentences.specs.Words.{severalWords, numbersWords};
 ghost use Rattle.sentences.specs.Words.{formWords, expectedWords, fieldWords, wrongWords};
 ghost use Rattle.sentences.specs.Says.{sentenceMax, placeMost, nounMost, someMost};
@@ -31,6 +33,23 @@ pub fn tell(out: &mut [u8], at: usize, before: &[u8], m: u64, after: &[u8]) -> u
     put_bytes(out, b, after)
 }
 
+pub fn put_count(out: &mut [u8], at: usize, m: u64) -> usize
+    requires { ⌜ at ≤ placeMost ⌝ }
+    ensures { λ r. ⌜ Says countDigits (now (out .entry)) (now (out .exit)) at r (countWords m) ⌝ }
+{
+    put_magnitude(out, at, m, COUNT)
+}
+
+// A count, words.
+pub fn tell_first(out: &mut [u8], at: usize, m: u64, after: &[u8]) -> usize
+    requires { ⌜ (at ≤ placeMost) × (length (now after) ≤ sentenceMax) ⌝ }
+    ensures { λ r. ⌜ Says (countDigits + length (now (after .entry))) (now (out .entry)) (now (out .exit)) at r
+        (counted [] m (now (after .entry))) ⌝ }
+{
+    let a = put_count(out, at, m);
+    put_bytes(out, a, after)
+}
+
 // So many of a thing, in the singular or in the plural.
 pub fn tell_some(out: &mut [u8], at: usize, m: u64, one: &[u8], many: &[u8]) -> usize
     requires { ⌜ (at ≤ placeMost) × (length (now one) ≤ nounMost) × (length (now many) ≤ nounMost) ⌝ }
@@ -38,9 +57,9 @@ pub fn tell_some(out: &mut [u8], at: usize, m: u64, one: &[u8], many: &[u8]) -> 
         (someWords m (now (one .entry)) (now (many .entry))) ⌝ }
 {
     if m == 1 {
-        return tell(out, at, b"", m, one);
+        return tell_first(out, at, m, one);
     }
-    tell(out, at, b"", m, many)
+    tell_first(out, at, m, many)
 }
 
 // A number of a text. (It has nine digits at most: the test tells the prover so.)
@@ -72,25 +91,6 @@ pub fn put_key(out: &mut [u8], at: usize, key: Key) -> usize
     }
 }
 
-// The key that a line must begin with.
-pub fn put_own_key(out: &mut [u8], at: usize, form: Form) -> usize
-    requires { ⌜ at ≤ placeMost ⌝ }
-    ensures { λ r. ⌜ Says keyMost (now (out .entry)) (now (out .exit)) at r (ownKeyWords form) ⌝ }
-{
-    match form {
-        Form::Number => put_key(out, at, Key::Job),
-        Form::Kind => put_key(out, at, Key::Kind),
-        Form::Unknowns => put_key(out, at, Key::Unknowns),
-        Form::Numbers(key, _) => put_key(out, at, key),
-        Form::Sided(_) => put_key(out, at, Key::Row),
-        Form::Terms(_) => put_key(out, at, Key::Eq),
-        Form::Steps => put_key(out, at, Key::Steps),
-        Form::Verdict => put_key(out, at, Key::Verdict),
-        Form::Low => put_key(out, at, Key::Lo),
-        Form::Nothing => at,
-    }
-}
-
 // A key and so many numbers.
 fn put_several(out: &mut [u8], at: usize, key: Key, m: u64) -> usize
     requires { ⌜ at ≤ sentenceMax ⌝ }
@@ -111,6 +111,22 @@ fn put_numbers(out: &mut [u8], at: usize, key: Key, m: usize) -> usize
     put_several(out, at, key, m as u64)
 }
 
+fn put_sided(out: &mut [u8], at: usize, m: usize) -> usize
+    requires { ⌜ at ≤ sentenceMax ⌝ }
+    ensures { λ r. ⌜ Says formMost (now (out .entry)) (now (out .exit)) at r (formWords (Form.Sided m)) ⌝ }
+{
+    let after = b" numbers joined by commas, the right side last";
+    tell(out, at, b"row= and ", m as u64, after)
+}
+
+fn put_terms_form(out: &mut [u8], at: usize, n: usize) -> usize
+    requires { ⌜ at ≤ sentenceMax ⌝ }
+    ensures { λ r. ⌜ Says formMost (now (out .entry)) (now (out .exit)) at r (formWords (Form.Terms n)) ⌝ }
+{
+    let before = b"eq= and terms coefficient:exponents joined by commas, exponent digits a term: ";
+    tell(out, at, before, n as u64, b"")
+}
+
 // What a line must be.
 fn put_form(out: &mut [u8], at: usize, form: Form) -> usize
     requires { ⌜ at ≤ sentenceMax ⌝ }
@@ -121,20 +137,8 @@ fn put_form(out: &mut [u8], at: usize, form: Form) -> usize
         Form::Kind => put_bytes(out, at, b"kind=poly, kind=linear or kind=eigen"),
         Form::Unknowns => put_bytes(out, at, b"n= and one digit"),
         Form::Numbers(key, m) => put_numbers(out, at, key, m),
-        Form::Sided(m) => tell(
-            out,
-            at,
-            b"row= and ",
-            m as u64,
-            b" numbers joined by commas, the right side last",
-        ),
-        Form::Terms(n) => tell(
-            out,
-            at,
-            b"eq= and terms coefficient:exponents joined by commas, exponent digits a term: ",
-            n as u64,
-            b"",
-        ),
+        Form::Sided(m) => put_sided(out, at, m),
+        Form::Terms(n) => put_terms_form(out, at, n),
         Form::Steps => put_bytes(out, at, b"steps= and a number"),
         Form::Verdict => put_bytes(
             out,

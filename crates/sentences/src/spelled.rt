@@ -2,9 +2,9 @@
 use crate::parts::put_expected;
 use crate::parts::put_field;
 use crate::parts::put_key;
-use crate::parts::put_own_key;
 use crate::parts::put_wrong;
 use crate::parts::tell;
+use crate::parts::tell_first;
 use crate::parts::tell_some;
 use slips::Field;
 use slips::Form;
@@ -12,14 +12,16 @@ use slips::Key;
 use slips::LineSlip;
 use slips::Misspelling;
 use slips::Spelled;
+use slips::Unlike;
 use slips::Wrong;
+use slips::WrongTerm;
 use writing::put_bytes;
 ghost use Prim.Native.Nat.{_≤_};
 ghost use lib.ListN.{length};
 ghost use Rattle.sentences.specs.Says.{Says, sentenceMax, wordsMost};
 ghost use Rattle.sentences.specs.Sentences.{lineWords, lineNot, otherKeyWords, numberNot, countNot};
 ghost use Rattle.sentences.specs.Sentences.{exponentsNot, termNot, emptyWords, markWords, lineSlipWords};
-ghost use Rattle.sentences.specs.Sentences.{misspelledWords};
+ghost use Rattle.sentences.specs.Sentences.{unlikeWords, wrongTermWords, misspelledWords};
 
 fn put_line(out: &mut [u8], line: u64, words: &[u8]) -> usize
     requires { ⌜ length (now words) ≤ wordsMost ⌝ }
@@ -37,13 +39,13 @@ fn put_line_not(out: &mut [u8], line: u64, words: &[u8], form: Form) -> usize
     put_expected(out, a, form)
 }
 
-fn put_other_key(out: &mut [u8], line: u64, key: Key, form: Form) -> usize
-    ensures { λ r. ⌜ Says sentenceMax (now (out .entry)) (now (out .exit)) 0 r (otherKeyWords line key form) ⌝ }
+fn put_other_key(out: &mut [u8], line: u64, own: Key, key: Key) -> usize
+    ensures { λ r. ⌜ Says sentenceMax (now (out .entry)) (now (out .exit)) 0 r (otherKeyWords line own key) ⌝ }
 {
     let a = tell(out, 0, b"line ", line, b" begins with ");
     let b = put_key(out, a, key);
     let c = put_bytes(out, b, b", ");
-    let d = put_own_key(out, c, form);
+    let d = put_key(out, c, own);
     put_bytes(out, d, b" is expected")
 }
 
@@ -55,40 +57,40 @@ fn put_number_not(out: &mut [u8], field: Field, wrong: Wrong, form: Form) -> usi
     put_expected(out, b, form)
 }
 
-fn put_count_not(out: &mut [u8], n: u64, expected: u64, found: u64) -> usize
+fn put_count_not(out: &mut [u8], n: usize, expected: usize, found: usize) -> usize
     ensures { λ r. ⌜ Says sentenceMax (now (out .entry)) (now (out .exit)) 0 r (countNot n expected found) ⌝ }
 {
-    let a = tell(out, 0, b"n=", n, b": ");
+    let a = tell(out, 0, b"n=", n as u64, b": ");
     let b = tell_some(
         out,
         a,
-        expected,
+        expected as u64,
         b" number expected, ",
         b" numbers expected, ",
     );
-    tell(out, b, b"", found, b" found")
+    tell_first(out, b, found as u64, b" found")
 }
 
-fn put_exponents_not(out: &mut [u8], n: u64, k: u64, found: u64) -> usize
+fn put_exponents_not(out: &mut [u8], n: usize, k: usize, found: usize) -> usize
     ensures { λ r. ⌜ Says sentenceMax (now (out .entry)) (now (out .exit)) 0 r (exponentsNot n k found) ⌝ }
 {
-    let a = tell(out, 0, b"n=", n, b": ");
+    let a = tell(out, 0, b"n=", n as u64, b": ");
     let b = tell_some(
         out,
         a,
-        n,
+        n as u64,
         b" exponent expected in term ",
         b" exponents expected in term ",
     );
-    let c = tell(out, b, b"", k, b", ");
-    tell(out, c, b"", found, b" found")
+    let c = tell_first(out, b, k as u64, b", ");
+    tell_first(out, c, found as u64, b" found")
 }
 
-fn put_term_not(out: &mut [u8], k: u64, words: &[u8], form: Form) -> usize
+fn put_term_not(out: &mut [u8], k: usize, words: &[u8], form: Form) -> usize
     requires { ⌜ length (now words) ≤ wordsMost ⌝ }
     ensures { λ r. ⌜ Says sentenceMax (now (out .entry)) (now (out .exit)) 0 r (termNot k (now (words .entry)) form) ⌝ }
 {
-    let a = tell(out, 0, b"term ", k, words);
+    let a = tell(out, 0, b"term ", k as u64, words);
     put_expected(out, a, form)
 }
 
@@ -109,17 +111,15 @@ fn put_mark(out: &mut [u8]) -> usize
     )
 }
 
-fn put_line_slip(out: &mut [u8], line: u64, form: Form, slip: LineSlip) -> usize
-    ensures { λ r. ⌜ Says sentenceMax (now (out .entry)) (now (out .exit)) 0 r (lineSlipWords line form slip) ⌝ }
+fn put_line_slip(out: &mut [u8], line: u64, slip: LineSlip) -> usize
+    ensures { λ r. ⌜ Says sentenceMax (now (out .entry)) (now (out .exit)) 0 r (lineSlipWords line slip) ⌝ }
 {
     match slip {
-        LineSlip::Gone => put_line_not(out, line, b" is missing", form),
         LineSlip::Extra => put_line(
             out,
             line,
             b" is one too many: the line before it is the last",
         ),
-        LineSlip::Hollow => put_line_not(out, line, b" is empty", form),
         LineSlip::NoFeed => put_line(out, line, b" has no line feed: press Enter at its end"),
         LineSlip::Return => put_line(
             out,
@@ -127,10 +127,29 @@ fn put_line_slip(out: &mut [u8], line: u64, form: Form, slip: LineSlip) -> usize
             b" has a carriage return: save with Unix line ends",
         ),
         LineSlip::Blank => put_line(out, line, b" has a blank or a tab: write it with none"),
-        LineSlip::Capital => put_line_not(out, line, b" has a capital letter: all are small", form),
-        LineSlip::NoKey => put_line_not(out, line, b" does not begin with its key", form),
-        LineSlip::Word => put_line_not(out, line, b" has another word", form),
-        LineSlip::Digit => put_line_not(out, line, b" has not just one digit", form),
+    }
+}
+
+fn put_unlike(out: &mut [u8], line: u64, slip: Unlike, form: Form) -> usize
+    ensures { λ r. ⌜ Says sentenceMax (now (out .entry)) (now (out .exit)) 0 r (unlikeWords line slip form) ⌝ }
+{
+    match slip {
+        Unlike::Gone => put_line_not(out, line, b" is missing", form),
+        Unlike::Hollow => put_line_not(out, line, b" is empty", form),
+        Unlike::Capital => put_line_not(out, line, b" has a capital letter: all are small", form),
+        Unlike::NoKey => put_line_not(out, line, b" does not begin with its key", form),
+        Unlike::Word => put_line_not(out, line, b" has another word", form),
+        Unlike::Digit => put_line_not(out, line, b" has not just one digit", form),
+    }
+}
+
+fn put_wrong_term(out: &mut [u8], n: usize, k: usize, wrong: WrongTerm, form: Form) -> usize
+    ensures { λ r. ⌜ Says sentenceMax (now (out .entry)) (now (out .exit)) 0 r (wrongTermWords n k wrong form) ⌝ }
+{
+    match wrong {
+        WrongTerm::NoExponents => put_term_not(out, k, b" has no exponents", form),
+        WrongTerm::Exponents(found) => put_exponents_not(out, n, k, found),
+        WrongTerm::After => put_term_not(out, k, b" is not followed by a comma", form),
     }
 }
 
@@ -139,21 +158,14 @@ pub fn put_misspelled(out: &mut [u8], s: Spelled) -> usize
 {
     let form = s.form;
     let slip = s.slip;
-    let n = s.n as u64;
     match slip {
         Misspelling::Empty => put_empty(out, form),
         Misspelling::OrderMark => put_mark(out),
-        Misspelling::Line(line_slip) => put_line_slip(out, s.line, form, line_slip),
-        Misspelling::OtherKey(key) => put_other_key(out, s.line, key, form),
+        Misspelling::Line(it) => put_line_slip(out, s.line, it),
+        Misspelling::Unlike(it) => put_unlike(out, s.line, it, form),
+        Misspelling::OtherKey(own, key) => put_other_key(out, s.line, own, key),
         Misspelling::Number(field, wrong) => put_number_not(out, field, wrong, form),
-        Misspelling::Count(expected, found) => put_count_not(out, n, expected as u64, found as u64),
-        Misspelling::NoExponents(k) => put_term_not(out, k as u64, b" has no exponents", form),
-        Misspelling::AfterTerm(k) => put_term_not(
-            out,
-            k as u64,
-            b" is not followed by a comma",
-            form,
-        ),
-        Misspelling::Exponents(k, found) => put_exponents_not(out, n, k as u64, found as u64),
+        Misspelling::Count(expected, found) => put_count_not(out, s.n, expected, found),
+        Misspelling::Term(k, wrong) => put_wrong_term(out, s.n, k, wrong, form),
     }
 }

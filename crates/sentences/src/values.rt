@@ -1,6 +1,8 @@
 // The sentences of faults 4, 5 and 6.
+use crate::parts::put_count;
 use crate::parts::put_value;
 use crate::parts::tell;
+use crate::parts::tell_first;
 use sizes::DEGREE;
 use sizes::END;
 use sizes::ENTRY;
@@ -12,6 +14,7 @@ use slips::TermSlip;
 use writing::put_bytes;
 ghost use Prim.Native.Nat.{_+_, _≤_};
 ghost use lib.ListN.{length};
+ghost use Rattle.slips.specs.declared.TermSlip.{TermSlip};
 ghost use Rattle.sentences.specs.Says.{Says, sentenceMax, wordsMost, rangeMost};
 ghost use Rattle.sentences.specs.Sentences.{rangeWords, farNot, farWords, crossingWords, crossedWords};
 ghost use Rattle.sentences.specs.Sentences.{jobFarWords, manyWords, degreeWords, sameWords};
@@ -24,15 +27,15 @@ fn put_range(out: &mut [u8], at: usize, words: &[u8], m: u64) -> usize
 {
     let a = put_bytes(out, at, words);
     let b = tell(out, a, b" lie from -", m, b" to ");
-    tell(out, b, b"", m, b"")
+    put_count(out, b, m)
 }
 
-fn put_far_not(out: &mut [u8], field: &[u8], k: u64, v: i64, words: &[u8], m: u64) -> usize
+fn put_far_not(out: &mut [u8], field: &[u8], k: usize, v: i64, words: &[u8], m: u64) -> usize
     requires { ⌜ (length (now field) ≤ wordsMost) × (length (now words) ≤ wordsMost) ⌝ }
     ensures { λ r. ⌜ Says sentenceMax (now (out .entry)) (now (out .exit)) 0 r
         (farNot (now (field .entry)) k v (now (words .entry)) m) ⌝ }
 {
-    let a = tell(out, 0, field, k, b" is ");
+    let a = tell(out, 0, field, k as u64, b" is ");
     let b = put_value(out, a, v);
     put_range(out, b, words, m)
 }
@@ -50,12 +53,12 @@ pub fn put_far(out: &mut [u8], far: Far) -> usize
 {
     match far {
         Far::Job(v) => put_job_far(out, v),
-        Far::End(k, v) => put_far_not(out, b"number ", k as u64, v, b": ends", END as u64),
-        Far::Entry(k, v) => put_far_not(out, b"number ", k as u64, v, b": entries", ENTRY as u64),
+        Far::End(k, v) => put_far_not(out, b"number ", k, v, b": ends", END as u64),
+        Far::Entry(k, v) => put_far_not(out, b"number ", k, v, b": entries", ENTRY as u64),
         Far::Coefficient(k, v) => put_far_not(
             out,
             b"the coefficient of term ",
-            k as u64,
+            k,
             v,
             b": coefficients",
             ENTRY as u64,
@@ -64,10 +67,10 @@ pub fn put_far(out: &mut [u8], far: Far) -> usize
     }
 }
 
-fn put_crossing(out: &mut [u8], i: u64, lo: i64, hi: i64) -> usize
+fn put_crossing(out: &mut [u8], i: usize, lo: i64, hi: i64) -> usize
     ensures { λ r. ⌜ Says sentenceMax (now (out .entry)) (now (out .exit)) 0 r (crossingWords i lo hi) ⌝ }
 {
-    let a = tell(out, 0, b"unknown ", i, b": the high end ");
+    let a = tell(out, 0, b"unknown ", i as u64, b": the high end ");
     let b = put_value(out, a, hi);
     let c = put_bytes(out, b, b" is below the low end ");
     put_value(out, c, lo)
@@ -77,12 +80,12 @@ pub fn put_crossed(out: &mut [u8], at: Crossing) -> usize
     ensures { λ r. ⌜ Says sentenceMax (now (out .entry)) (now (out .exit)) 0 r (crossedWords at) ⌝ }
 {
     match at {
-        Crossing::At(i, lo, hi) => put_crossing(out, i as u64, lo, hi),
+        Crossing::At(i, lo, hi) => put_crossing(out, i, lo, hi),
         Crossing::Unplaced => put_bytes(out, 0, b"no high end may be below its low end"),
     }
 }
 
-fn put_many(out: &mut [u8], count: u64) -> usize
+fn put_many(out: &mut [u8], count: usize) -> usize
     ensures { λ r. ⌜ Says sentenceMax (now (out .entry)) (now (out .exit)) 0 r (manyWords count) ⌝ }
 {
     let a = tell(
@@ -92,39 +95,49 @@ fn put_many(out: &mut [u8], count: u64) -> usize
         TERMS as u64,
         b" terms, this one has ",
     );
-    tell(out, a, b"", count, b"")
+    put_count(out, a, count as u64)
 }
 
-fn put_degree(out: &mut [u8], k: u64, d: u64) -> usize
-    ensures { λ r. ⌜ Says sentenceMax (now (out .entry)) (now (out .exit)) 0 r (degreeWords k d) ⌝ }
+fn put_zero(out: &mut [u8], k: usize) -> usize
+    ensures { λ r. ⌜ Says sentenceMax (now (out .entry)) (now (out .exit)) 0 r (termWords (TermSlip.Zero k)) ⌝ }
 {
-    let a = tell(out, 0, b"the exponents of term ", k, b" add up to ");
-    let b = tell(out, a, b"", d, b", at most ");
-    tell(out, b, b"", DEGREE, b" may be")
-}
-
-fn put_same(out: &mut [u8], j: u64, k: u64) -> usize
-    ensures { λ r. ⌜ Says sentenceMax (now (out .entry)) (now (out .exit)) 0 r (sameWords j k) ⌝ }
-{
-    let a = tell(out, 0, b"terms ", j, b" and ");
     tell(
         out,
+        0,
+        b"the coefficient of term ",
+        k as u64,
+        b" is 0: leave the term out",
+    )
+}
+
+fn put_degree(out: &mut [u8], k: usize, d: u64) -> usize
+    ensures { λ r. ⌜ Says sentenceMax (now (out .entry)) (now (out .exit)) 0 r (degreeWords k d) ⌝ }
+{
+    let a = tell(out, 0, b"the exponents of term ", k as u64, b" add up to ");
+    let b = tell_first(out, a, d, b", at most ");
+    tell_first(out, b, DEGREE, b" may be")
+}
+
+fn put_same(out: &mut [u8], j: usize, k: usize) -> usize
+    ensures { λ r. ⌜ Says sentenceMax (now (out .entry)) (now (out .exit)) 0 r (sameWords j k) ⌝ }
+{
+    let a = tell(out, 0, b"terms ", j as u64, b" and ");
+    tell_first(
+        out,
         a,
-        b"",
-        k,
+        k as u64,
         b" have the same exponents: make them one term",
     )
 }
 
-fn put_order(out: &mut [u8], j: u64, k: u64) -> usize
+fn put_order(out: &mut [u8], j: usize, k: usize) -> usize
     ensures { λ r. ⌜ Says sentenceMax (now (out .entry)) (now (out .exit)) 0 r (orderWords j k) ⌝ }
 {
-    let a = tell(out, 0, b"term ", k, b" must stand before term ");
-    tell(
+    let a = tell(out, 0, b"term ", k as u64, b" must stand before term ");
+    tell_first(
         out,
         a,
-        b"",
-        j,
+        j as u64,
         b": terms stand in falling order of their exponents",
     )
 }
@@ -133,17 +146,11 @@ pub fn put_terms(out: &mut [u8], slip: TermSlip) -> usize
     ensures { λ r. ⌜ Says sentenceMax (now (out .entry)) (now (out .exit)) 0 r (termWords slip) ⌝ }
 {
     match slip {
-        TermSlip::Many(count) => put_many(out, count as u64),
-        TermSlip::Zero(k) => tell(
-            out,
-            0,
-            b"the coefficient of term ",
-            k as u64,
-            b" is 0: leave the term out",
-        ),
-        TermSlip::Degree(k, d) => put_degree(out, k as u64, d),
-        TermSlip::Same(j, k) => put_same(out, j as u64, k as u64),
-        TermSlip::Order(j, k) => put_order(out, j as u64, k as u64),
+        TermSlip::Many(count) => put_many(out, count),
+        TermSlip::Zero(k) => put_zero(out, k),
+        TermSlip::Degree(k, d) => put_degree(out, k, d),
+        TermSlip::Same(j, k) => put_same(out, j, k),
+        TermSlip::Order(j, k) => put_order(out, j, k),
         TermSlip::Unplaced => put_bytes(
             out,
             0,

@@ -56,31 +56,41 @@ pub enum Wrong {
     Other,
 }
 
-// What is wrong with a whole line.
+// What is wrong with a term's spelling, its coefficient aside; so many exponents are found.
+pub enum WrongTerm {
+    NoExponents,
+    Exponents(usize),
+    After,
+}
+
+// What is wrong with a line, whatever it must be.
 pub enum LineSlip {
-    Gone,
     Extra,
-    Hollow,
     NoFeed,
     Return,
     Blank,
+}
+
+// How a line is unlike what it must be.
+pub enum Unlike {
+    Gone,
+    Hollow,
     Capital,
     NoKey,
     Word,
     Digit,
 }
 
-// Fault 2. Terms are counted from 1; of numbers those that are expected come before those that are found.
+// Fault 2. Terms are counted from 1; what is expected comes before what is found.
 pub enum Misspelling {
     Empty,
     OrderMark,
     Line(LineSlip),
-    OtherKey(Key),
+    Unlike(Unlike),
+    OtherKey(Key, Key),
     Number(Field, Wrong),
     Count(usize, usize),
-    NoExponents(usize),
-    AfterTerm(usize),
-    Exponents(usize, usize),
+    Term(usize, WrongTerm),
 }
 
 // Fault 4: the number and its place.

@@ -10,17 +10,36 @@ use scan::number_at;
 ghost use Prim.Native.Nat.{_≤_};
 ghost use lib.ListN.{length};
 
-fn wrong(field: Field, w: Wrong) -> Misspelling {
-    Misspelling::Number(field, w)
+// What ends a field or a line does not stand at this place: the text ends there, a byte stands there that no line has,
+// or it is this other slip.
+pub fn no_end(text: &[u8], at: usize, other: Misspelling) -> Misspelling {
+    match stands(text, at) {
+        Stand::End => Misspelling::Line(LineSlip::NoFeed),
+        Stand::Return => Misspelling::Line(LineSlip::Return),
+        Stand::Blank => Misspelling::Line(LineSlip::Blank),
+        _ => other,
+    }
 }
 
 // A minus before no number: what stands after it.
 fn after_minus(text: &[u8], at: usize, field: Field) -> Misspelling {
     match stands(text, at) {
-        Stand::Digit => wrong(field, Wrong::MinusZero),
+        Stand::Digit => Misspelling::Number(field, Wrong::MinusZero),
         Stand::Return => Misspelling::Line(LineSlip::Return),
         Stand::Blank => Misspelling::Line(LineSlip::Blank),
-        _ => wrong(field, Wrong::BareMinus),
+        _ => Misspelling::Number(field, Wrong::BareMinus),
+    }
+}
+
+// What is wrong with a number where this stands in place of its first byte.
+fn wrong_start(stand: Stand) -> Wrong {
+    match stand {
+        Stand::End => Wrong::Missing,
+        Stand::Feed => Wrong::Missing,
+        Stand::Comma => Wrong::Missing,
+        Stand::Point => Wrong::Point,
+        Stand::Plus => Wrong::Plus,
+        _ => Wrong::Other,
     }
 }
 
@@ -28,33 +47,26 @@ fn after_minus(text: &[u8], at: usize, field: Field) -> Misspelling {
 pub fn in_place_of(text: &[u8], at: usize, field: Field) -> Misspelling
     requires { ⌜ at ≤ length (now text) ⌝ }
 {
-    match stands(text, at) {
-        Stand::End => wrong(field, Wrong::Missing),
-        Stand::Feed => wrong(field, Wrong::Missing),
-        Stand::Comma => wrong(field, Wrong::Missing),
+    let stand = stands(text, at);
+    match stand {
         Stand::Return => Misspelling::Line(LineSlip::Return),
         Stand::Blank => Misspelling::Line(LineSlip::Blank),
-        Stand::Point => wrong(field, Wrong::Point),
-        Stand::Plus => wrong(field, Wrong::Plus),
         Stand::Minus => after_minus(text, at + 1, field),
-        _ => wrong(field, Wrong::Other),
+        _ => Misspelling::Number(field, wrong_start(stand)),
     }
 }
 
 // A number ends at this place, and so must not go on there: of those with a digit behind them only 0 is short of nine.
 pub fn after(text: &[u8], at: usize, field: Field, v: i64) -> Misspelling {
     match stands(text, at) {
-        Stand::End => Misspelling::Line(LineSlip::NoFeed),
-        Stand::Return => Misspelling::Line(LineSlip::Return),
-        Stand::Blank => Misspelling::Line(LineSlip::Blank),
-        Stand::Point => wrong(field, Wrong::Point),
+        Stand::Point => Misspelling::Number(field, Wrong::Point),
         Stand::Digit => {
             if v == 0 {
-                return wrong(field, Wrong::LeadingZero);
+                return Misspelling::Number(field, Wrong::LeadingZero);
             }
-            wrong(field, Wrong::LongDigits)
+            Misspelling::Number(field, Wrong::LongDigits)
         }
-        _ => wrong(field, Wrong::Other),
+        _ => no_end(text, at, Misspelling::Number(field, Wrong::Other)),
     }
 }
 
@@ -68,7 +80,7 @@ pub fn only_number(text: &[u8], from: usize) -> Misspelling
         return in_place_of(text, from, Field::Only);
     }
     if is_at(text, next, b',') {
-        return wrong(Field::Only, Wrong::Comma);
+        return Misspelling::Number(Field::Only, Wrong::Comma);
     }
     after(text, next, Field::Only, r.v)
 }

@@ -3,8 +3,10 @@ use crate::Form;
 use crate::Key;
 use crate::LineSlip;
 use crate::Misspelling;
+use crate::Unlike;
 use crate::forms::Keyed;
 use crate::forms::key_of;
+use crate::numbers::no_end;
 use crate::numbers::numbers;
 use crate::numbers::only_number;
 use crate::places::Stand;
@@ -37,12 +39,10 @@ fn past_word(text: &[u8], from: usize) -> usize
 fn word(text: &[u8], from: usize) -> Misspelling
     requires { ⌜ from ≤ length (now text) ⌝ }
 {
-    match stands(text, past_word(text, from)) {
-        Stand::End => Misspelling::Line(LineSlip::NoFeed),
-        Stand::Return => Misspelling::Line(LineSlip::Return),
-        Stand::Blank => Misspelling::Line(LineSlip::Blank),
-        Stand::Capital => Misspelling::Line(LineSlip::Capital),
-        _ => Misspelling::Line(LineSlip::Word),
+    let at = past_word(text, from);
+    match stands(text, at) {
+        Stand::Capital => Misspelling::Unlike(Unlike::Capital),
+        _ => no_end(text, at, Misspelling::Unlike(Unlike::Word)),
     }
 }
 
@@ -50,61 +50,63 @@ fn word(text: &[u8], from: usize) -> Misspelling
 fn digit(text: &[u8], from: usize) -> Misspelling
     requires { ⌜ from ≤ length (now text) ⌝ }
 {
-    if text.len() <= from {
-        return Misspelling::Line(LineSlip::Digit);
-    }
     match stands(text, from) {
         Stand::Return => Misspelling::Line(LineSlip::Return),
         Stand::Blank => Misspelling::Line(LineSlip::Blank),
-        Stand::Digit => match stands(text, from + 1) {
-            Stand::End => Misspelling::Line(LineSlip::NoFeed),
-            Stand::Return => Misspelling::Line(LineSlip::Return),
-            Stand::Blank => Misspelling::Line(LineSlip::Blank),
-            _ => Misspelling::Line(LineSlip::Digit),
-        },
-        _ => Misspelling::Line(LineSlip::Digit),
+        Stand::Digit => no_end(text, from + 1, Misspelling::Unlike(Unlike::Digit)),
+        _ => Misspelling::Unlike(Unlike::Digit),
     }
 }
 
-// The key that stands there in place of the line's own.
-fn other_key(text: &[u8], at: usize) -> Misspelling
+// The key that stands there.
+fn key_there(text: &[u8], at: usize) -> Keyed
     requires { ⌜ at ≤ length (now text) ⌝ }
 {
     if at < past_key(text, at, Key::Job) {
-        return Misspelling::OtherKey(Key::Job);
+        return Keyed::By(Key::Job);
     }
     if at < past_key(text, at, Key::Kind) {
-        return Misspelling::OtherKey(Key::Kind);
+        return Keyed::By(Key::Kind);
     }
     if at < past_key(text, at, Key::Unknowns) {
-        return Misspelling::OtherKey(Key::Unknowns);
+        return Keyed::By(Key::Unknowns);
     }
     if at < past_key(text, at, Key::Lo) {
-        return Misspelling::OtherKey(Key::Lo);
+        return Keyed::By(Key::Lo);
     }
     if at < past_key(text, at, Key::Hi) {
-        return Misspelling::OtherKey(Key::Hi);
+        return Keyed::By(Key::Hi);
     }
     if at < past_key(text, at, Key::Inv) {
-        return Misspelling::OtherKey(Key::Inv);
+        return Keyed::By(Key::Inv);
     }
     if at < past_key(text, at, Key::Steps) {
-        return Misspelling::OtherKey(Key::Steps);
+        return Keyed::By(Key::Steps);
     }
     if at < past_key(text, at, Key::Eq) {
-        return Misspelling::OtherKey(Key::Eq);
+        return Keyed::By(Key::Eq);
     }
     if at < past_key(text, at, Key::Row) {
-        return Misspelling::OtherKey(Key::Row);
+        return Keyed::By(Key::Row);
     }
     if at < past_key(text, at, Key::Verdict) {
-        return Misspelling::OtherKey(Key::Verdict);
+        return Keyed::By(Key::Verdict);
     }
-    Misspelling::Line(LineSlip::NoKey)
+    Keyed::None
+}
+
+// Another key than the line's own, or none.
+fn other_key(text: &[u8], at: usize, own: Key) -> Misspelling
+    requires { ⌜ at ≤ length (now text) ⌝ }
+{
+    match key_there(text, at) {
+        Keyed::None => Misspelling::Unlike(Unlike::NoKey),
+        Keyed::By(key) => Misspelling::OtherKey(own, key),
+    }
 }
 
 // The line's own key does not stand there.
-fn unkeyed(text: &[u8], at: usize) -> Misspelling
+fn unkeyed(text: &[u8], at: usize, own: Key) -> Misspelling
     requires { ⌜ at ≤ length (now text) ⌝ }
 {
     if at == 0 {
@@ -113,11 +115,11 @@ fn unkeyed(text: &[u8], at: usize) -> Misspelling
         }
     }
     match stands(text, at) {
-        Stand::Feed => Misspelling::Line(LineSlip::Hollow),
+        Stand::Feed => Misspelling::Unlike(Unlike::Hollow),
         Stand::Return => Misspelling::Line(LineSlip::Return),
         Stand::Blank => Misspelling::Line(LineSlip::Blank),
-        Stand::Capital => Misspelling::Line(LineSlip::Capital),
-        _ => other_key(text, at),
+        Stand::Capital => Misspelling::Unlike(Unlike::Capital),
+        _ => other_key(text, at, own),
     }
 }
 
@@ -144,7 +146,7 @@ fn gone(text: &[u8]) -> Misspelling {
     if text.len() == 0 {
         return Misspelling::Empty;
     }
-    Misspelling::Line(LineSlip::Gone)
+    Misspelling::Unlike(Unlike::Gone)
 }
 
 // The line that begins at this place, which must be of this form.
@@ -159,7 +161,7 @@ pub fn line_slip(text: &[u8], at: usize, form: Form, n: usize) -> Misspelling
         Keyed::By(key) => {
             let from = past_key(text, at, key);
             if from == at {
-                return unkeyed(text, at);
+                return unkeyed(text, at, key);
             }
             keyed(text, from, form, n)
         }

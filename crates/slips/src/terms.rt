@@ -1,10 +1,11 @@
 // A line of terms: where the reader of its terms stops, and which of its terms is not as it must be.
 use crate::Field;
-use crate::LineSlip;
 use crate::Misspelling;
 use crate::TermSlip;
+use crate::WrongTerm;
 use crate::numbers::after;
 use crate::numbers::in_place_of;
+use crate::numbers::no_end;
 use crate::places::Stand;
 use crate::places::stands;
 use digits::is_digit;
@@ -12,17 +13,19 @@ use jobs::Equation;
 use jobs::Term;
 use jobs::terms::degree_of;
 use jobs::terms::stands_before;
+use scan::is_at;
 use scan::number_at;
 use sizes::DEGREE;
 use sizes::TERMS;
-use term_read::term_at;
-ghost use Prim.Native.Nat.{_≤_};
+use term_read::terms_from;
+ghost use Prim.Native.Nat.{_+_, _≤_};
 ghost use lib.ListN.{length};
 ghost use Rattle.sizes.specs.Sizes.{nMax, termsMax};
 
 // How many digits stand from there on.
 fn digits_from(text: &[u8], from: usize) -> usize
     requires { ⌜ from ≤ length (now text) ⌝ }
+    ensures { λ r. ⌜ from + r ≤ length (now (text .entry)) ⌝ }
 {
     let mut a = from;
     while a < text.len() {
@@ -34,8 +37,29 @@ fn digits_from(text: &[u8], from: usize) -> usize
     a - from
 }
 
-// No term is spelled at this place: its coefficient, its colon or its exponents are wrong.
-fn no_term(text: &[u8], from: usize, k: usize) -> Misspelling
+// After the colon of term k: the wrong count of exponents, or neither a comma nor LF behind them.
+fn exponents(text: &[u8], from: usize, n: usize, k: usize) -> Misspelling
+    requires { ⌜ from ≤ length (now text) ⌝ }
+{
+    let found = digits_from(text, from);
+    if found != n {
+        return Misspelling::Term(k, WrongTerm::Exponents(found));
+    }
+    no_end(text, from + found, Misspelling::Term(k, WrongTerm::After))
+}
+
+// A field ends at this place, or the text does.
+fn ends(text: &[u8], at: usize) -> bool {
+    match stands(text, at) {
+        Stand::End => true,
+        Stand::Feed => true,
+        Stand::Comma => true,
+        _ => false,
+    }
+}
+
+// What is wrong with term k, which begins at this place.
+fn wrong_term(text: &[u8], from: usize, n: usize, k: usize) -> Misspelling
     requires { ⌜ from ≤ length (now text) ⌝ }
 {
     let r = number_at(text, from);
@@ -43,54 +67,22 @@ fn no_term(text: &[u8], from: usize, k: usize) -> Misspelling
     if next == from {
         return in_place_of(text, from, Field::Coefficient(k));
     }
-    if text.len() <= next {
-        return Misspelling::NoExponents(k);
+    if ends(text, next) {
+        return Misspelling::Term(k, WrongTerm::NoExponents);
     }
-    if text[next] == b':' {
-        return Misspelling::Exponents(k, digits_from(text, next + 1));
+    if is_at(text, next, b':') {
+        return exponents(text, next + 1, n, k);
     }
-    match stands(text, next) {
-        Stand::Feed => Misspelling::NoExponents(k),
-        Stand::Comma => Misspelling::NoExponents(k),
-        _ => after(text, next, Field::Coefficient(k), r.v),
-    }
+    after(text, next, Field::Coefficient(k), r.v)
 }
 
-// A term ends at this place, and neither a comma nor LF stands there. A digit is an exponent too many.
-fn after_term(text: &[u8], from: usize, at: usize, k: usize) -> Misspelling
-    requires { ⌜ from ≤ length (now text) ⌝ }
-{
-    match stands(text, at) {
-        Stand::End => Misspelling::Line(LineSlip::NoFeed),
-        Stand::Return => Misspelling::Line(LineSlip::Return),
-        Stand::Blank => Misspelling::Line(LineSlip::Blank),
-        Stand::Digit => no_term(text, from, k),
-        _ => Misspelling::AfterTerm(k),
-    }
-}
-
-// Terms joined by commas.
+// Terms joined by commas, of which one is wrong.
 pub fn terms(text: &[u8], from: usize, n: usize) -> Misspelling
     requires { ⌜ (from ≤ length (now text)) × (n ≤ nMax) ⌝ }
 {
-    let mut a = from;
-    let mut k = 1;
-    while a < text.len() {
-        let r = term_at(text, a, n);
-        let next = r.next;
-        if next == a {
-            return no_term(text, a, k);
-        }
-        if text.len() <= next {
-            return Misspelling::Line(LineSlip::NoFeed);
-        }
-        if text[next] != b',' {
-            return after_term(text, a, next, k);
-        }
-        a = next + 1;
-        k += 1;
-    }
-    in_place_of(text, a, Field::Coefficient(k))
+    let r = terms_from(text, from, n);
+    let q = r.equation;
+    wrong_term(text, r.next, n, q.count + 1)
 }
 
 // Term k, counted from 1, and the one after it.

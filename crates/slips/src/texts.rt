@@ -74,6 +74,18 @@ fn unknowns(text: &[u8], s: Seen) -> usize
     }
 }
 
+fn spelled(text: &[u8], s: Seen) -> Spelled
+    requires { ⌜ Inside (now text) s ⌝ }
+{
+    let form = s.form;
+    Spelled {
+        line: s.line,
+        n: s.n,
+        form,
+        slip: line_slip(text, s.at, form, s.n),
+    }
+}
+
 fn slip_of(text: &[u8], f: Fault, s: Seen) -> Slip
     requires { ⌜ Inside (now text) s ⌝ }
     ensures { λ r. ⌜ faultOf r ≡ Finding.Bad f ⌝ }
@@ -81,15 +93,7 @@ fn slip_of(text: &[u8], f: Fault, s: Seen) -> Slip
     let form = s.form;
     match f {
         Fault::LongText => Slip::Long,
-        Fault::Spelling => {
-            let slip = line_slip(text, s.at, form, s.n);
-            Slip::Spelled(Spelled {
-                line: s.line,
-                n: s.n,
-                form,
-                slip,
-            })
-        }
+        Fault::Spelling => Slip::Spelled(spelled(text, s)),
         Fault::Unknowns => Slip::Unknowns(unknowns(text, s)),
         Fault::Beyond => Slip::Beyond(far(text, s.from, form, s.n)),
         Fault::Crossed => Slip::Crossed(crossing(text, s.low, s.from)),

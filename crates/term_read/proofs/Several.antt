@@ -31,7 +31,7 @@ use Rattle.scan.proofs.Fields.{Steps, OnlyField, Onward, next-field, last-field
 use Rattle.scan.proofs.Counting.{ends-at}
 use Rattle.scan.proofs.Keyed.{no-key, has-key, same-end, body-at}
 use Rattle.term_read.specs.Terms.{OnlyTerm}
-use Rattle.term_read.specs.Lines.{isMark, isFar, badTerms, termsOf, TermsFrom}
+use Rattle.term_read.specs.Lines.{isMark, isFar, badTerms, TermsOf, TermsFrom}
 use Rattle.term_read.specs.declared.TermsAt.{TermsAt}
 
 -- ---- a term is a field
@@ -121,15 +121,18 @@ reads-whole t from n h z l =
     rw (ne-eqb (length (lineOf t from)) 0 (λ y. omega (arith, y, k)))
 
 module _ (read : List ℕ → Terms) (t : List ℕ) (from : ℕ) {r : TermsAt} where
-  no-terms : endedAnd t from (read (lineOf t from) .ok) ≡ false → r ≡ badTerms → TermsFrom read t from r
-  unfolding termsOf
-  no-terms z e = rw z e
+  no-terms : (count next : ℕ) → count ≤ next → next ≤ length t → endedAnd t from (read (lineOf t from) .ok) ≡ false
+      → r ≡ badTerms count next → TermsFrom read t from r
+  unfolding TermsOf
+  no-terms count next p q z e = rw e (record { answer = rw z refl; few = p; inside = q })
 
-  all-terms : (l : Terms) → lineEnd t from < length t → read (lineOf t from) ≡ l → l .ok ≡ true
+  all-terms : (l : Terms) → l .equation .count ≤ lineEnd t from + 1 → lineEnd t from < length t
+      → read (lineOf t from) ≡ l → l .ok ≡ true
       → r ≡ record { ok = true; far = l .far; next = lineEnd t from + 1; equation = l .equation } → TermsFrom read t
       from r
-  unfolding termsOf
-  all-terms l h w y e = rw (w, is-ended t from (l .ok) h y) e
+  unfolding TermsOf
+  all-terms l p h w y e =
+      rw e (record { answer = rw (w, is-ended t from (l .ok) h y) refl; few = p; inside = omega (arith, h) })
 
 pub empty-line : (t : List ℕ) (from n : ℕ) → isAt t from lineFeed ≡ true
     → TermsFrom (readTerms n) t from (record { ok = true; far = false; next = from + 1; equation = zeroEquation })
@@ -137,7 +140,7 @@ unfolding readTerms noTerms
 empty-line t from n z =
     let y = at-yes t from lineFeed z in
     let w : from ≡ lineEnd t from = ends-at t from from (omega arith) (λ k p q. absurd (omega arith)) z in
-    all-terms (readTerms n) t from noTerms (omega (arith, y .0))
+    all-terms (readTerms n) t from noTerms (omega arith) (omega (arith, y .0))
     (rw (part-none t from (lineEnd t from) (omega arith))) refl
     (ap (λ (i : ℕ). record { ok = true; far = false; next = i + 1; equation = zeroEquation }) w)
 
@@ -157,18 +160,18 @@ module _ {t : List ℕ} {from n : ℕ} {terms : List Term} {far : Bool} {count a
     (inv : Inv t from n terms far count a true)
     {x : Term} {next : ℕ} (h : OnlyTerm t a n x next) where
   -- a bad field makes a bad line
-  not-whole : {r : TermsAt} → r ≡ badTerms → (lineEnd t from < length t → wholeOf n t from .ok ≡ false)
+  not-whole : {r : TermsAt} → r ≡ badTerms count a → (lineEnd t from < length t → wholeOf n t from .ok ≡ false)
       → TermsFrom (readTerms n) t from r
   not-whole e w =
-      no-terms (readTerms n) t from
+      no-terms (readTerms n) t from count a (inv .few) (inv .inside)
       (not-ended t from (readTerms n (lineOf t from) .ok)
       (λ l. ap (λ (y : Terms). y .ok) (reads-whole t from n (inv .start) (inv .some) l) ∙ w l))
       e
 
-  pub none-there : next ≡ a → {r : TermsAt} → r ≡ badTerms → TermsFrom (readTerms n) t from r
+  pub none-there : next ≡ a → {r : TermsAt} → r ≡ badTerms count a → TermsFrom (readTerms n) t from r
   none-there z e = not-whole e (λ l. no-field (termSteps n) (inv .left) (term-field h) z)
 
-  pub other-mark : isMark t next ≡ false → {r : TermsAt} → r ≡ badTerms → TermsFrom (readTerms n) t from r
+  pub other-mark : isMark t next ≡ false → {r : TermsAt} → r ≡ badTerms count a → TermsFrom (readTerms n) t from r
   other-mark z e =
       not-whole e
       (λ l.
@@ -204,7 +207,7 @@ pub all-read : {t : List ℕ} {from n : ℕ} {terms : List Term} {far : Bool} {c
     (record { ok = true; far = far; next = a; equation = record { count = count; terms = terms } })
 all-read {t} {from} {n} {terms} {far} {count} inv =
     let d = inv .left in
-    all-terms (readTerms n) t from (listed far count terms) (d .1)
+    all-terms (readTerms n) t from (listed far count terms) (omega (arith, inv .few, d .0)) (d .1)
     (reads-whole t from n (inv .start) (inv .some) (d .1) ∙ sym (d .2)) refl
     (ap (λ (i : ℕ). record { ok = true; far = far; next = i; equation = record { count = count; terms = terms } })
     (d .0))
@@ -212,13 +215,20 @@ all-read {t} {from} {n} {terms} {far} {count} inv =
 -- ---- after the key
 
 module _ (t : List ℕ) (from n : ℕ) (h : from ≤ length t) {r : TermsAt} where
-  pub other-key : startsWith eqKey (drop from t) ≡ false → r ≡ badTerms → TermsFrom (readEquation n) t from r
+  pub other-key : startsWith eqKey (drop from t) ≡ false → r ≡ badTerms 0 from → TermsFrom (readEquation n) t from r
   unfolding readEquation
   other-key z e =
-      no-terms (readEquation n) t from
+      no-terms (readEquation n) t from 0 from (omega arith) h
       (not-ended t from (readEquation n (lineOf t from) .ok) (λ l. rw (no-key t eqKey from h z) (bad noTerms))) e
 
   pub keyed : startsWith eqKey (drop from t) ≡ true → TermsFrom (readTerms n) t (from + length eqKey) r
       → TermsFrom (readEquation n) t from r
   unfolding readEquation
-  keyed y e = rw (has-key t eqKey from h refl y, body-at t eqKey from h refl y, ← same-end t eqKey from h refl y) e
+  keyed y e =
+      record {
+        answer =
+            rw (has-key t eqKey from h refl y, body-at t eqKey from h refl y, ← same-end t eqKey from h refl y)
+            (e .answer);
+        few = e .few;
+        inside = e .inside;
+      }

@@ -1,14 +1,14 @@
--- An `eq` line and an `n` line at their places. Beside a line that is wrongly spelled every part of an answer is zero.
-use Prim.Native.Nat.{ℕ, _+_, _-_}
+-- An `eq` line and an `n` line at their places.
+use Prim.Native.Nat.{ℕ, _+_, _-_, _≤_}
 use mathlib.Core.Path.{_≡_}
 use mathlib.Core.List.{List}
 use mathlib.Core.Bool.{Bool, true, false, not, _||_}
-use lib.ListN.{getD}
+use lib.ListN.{length, getD, replicate}
 use lib.IntN.{pos}
-use Rattle.sizes.specs.Sizes.{entryMax}
+use Rattle.sizes.specs.Sizes.{entryMax, termsMax}
 use Rattle.digits.specs.Bytes.{lineFeed, comma, digit0}
 use Rattle.jobs.specs.Ranges.{isWithin}
-use Rattle.jobs.specs.Zero.{zeroEquation}
+use Rattle.jobs.specs.Zero.{zeroTerm}
 use Rattle.jobs.specs.declared.Term.{Term}
 use Rattle.text.specs.Keys.{bodyOf}
 use Rattle.term_text.specs.Terms.{oneDigit}
@@ -26,20 +26,31 @@ isMark t at = isAt t at comma || isAt t at lineFeed
 abbrev pub isFar : Term → Bool
 isFar x = not (isWithin (x .coef) (pos entryMax))
 
-abbrev pub badTerms : TermsAt
-badTerms = record { ok = false; far = false; next = 0; equation = zeroEquation }
+-- what is answered where a wrong term begins at `next`, after so many others
+abbrev pub badTerms : ℕ → ℕ → TermsAt
+badTerms count next =
+    record {
+      ok = false;
+      far = false;
+      next = next;
+      equation = record { count = count; terms = replicate termsMax zeroTerm };
+    }
 
--- what is told of a line that ends at e and whose terms are l
-unfoldable pub termsOf : Bool → Terms → ℕ → TermsAt
-termsOf true l e = record { ok = true; far = l .far; next = e + 1; equation = l .equation }
-termsOf false l e = badTerms
+-- what is told of a line that ends at e and whose terms are l; of one that is wrongly spelled, just that
+unfoldable pub TermsOf : Bool → Terms → ℕ → TermsAt → Type 0
+TermsOf true l e r = r ≡ record { ok = true; far = l .far; next = e + 1; equation = l .equation }
+TermsOf false l e r = r .ok ≡ false
 
--- what is told of the line that begins at a, and whose bytes `read` reads
-abbrev pub TermsFrom : (List ℕ → Terms) → List ℕ → ℕ → TermsAt → Type 0
-TermsFrom read t a r = r ≡ termsOf (endedAnd t a (read (lineOf t a) .ok)) (read (lineOf t a)) (lineEnd t a)
+-- what is told of the line that begins at a, and whose bytes `read` reads;
+-- of any line, that a place of the text is given, and no more terms than bytes before it
+pub record TermsFrom (read : List ℕ → Terms) (t : List ℕ) (a : ℕ) (r : TermsAt) : Type 0 where
+  pub answer : TermsOf (endedAnd t a (read (lineOf t a) .ok)) (read (lineOf t a)) (lineEnd t a) r
+  pub few : r .equation .count ≤ r .next
+  pub inside : r .next ≤ length t
 
 -- ---- "`n` is one digit"
 
+-- beside a line that is wrongly spelled every part of the answer is zero
 abbrev pub noDigit : DigitAt
 noDigit = record { ok = false; digit = 0; next = 0 }
 

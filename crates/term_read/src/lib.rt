@@ -31,13 +31,14 @@ struct Exps {
 }
 
 // A term and the place after it, `from` itself where none is spelled.
-pub struct TermAt {
-    pub next: usize,
-    pub term: Term,
+struct TermAt {
+    next: usize,
+    term: Term,
 }
 
 // A line's terms: whether it is well spelled, whether a coefficient is beyond its size, where the next line begins,
-// and the first of them.
+// and the first of them. Of a line that is wrongly spelled: where the first wrong term begins, and how many stand
+// before it.
 pub struct TermsAt {
     pub ok: bool,
     pub far: bool,
@@ -80,7 +81,7 @@ fn none_at(from: usize) -> TermAt
 }
 
 // "terms `coefficient:exponents`, one digit for each unknown"
-pub fn term_at(s: &[u8], from: usize, n: usize) -> TermAt
+fn term_at(s: &[u8], from: usize, n: usize) -> TermAt
     requires { ⌜ (n ≤ nMax) × (from ≤ length (now s)) ⌝ }
     ensures { λ r. ⌜ OnlyTerm (now (s .entry)) from n (r .term) (r .next) ⌝ }
 {
@@ -127,15 +128,28 @@ fn is_far(t: Term) -> bool
     !within(t.coef, ENTRY)
 }
 
-fn bad_terms() -> TermsAt
-    ensures { λ r. ⌜ r ≡ badTerms ⌝ }
+// After so many terms comes a wrong one, at this place.
+fn bad_terms(count: usize, next: usize) -> TermsAt
+    ensures { λ r. ⌜ r ≡ badTerms count next ⌝ }
 {
+    let zero = zero_term();
     TermsAt {
         ok: false,
         far: false,
-        next: 0,
-        equation: zero_equation(),
+        next,
+        equation: Equation {
+            count,
+            terms: [zero; TERMS],
+        },
     }
+}
+
+// n itself. Where the compiler sees that a count is at most N, it unrolls the loops that go so far.
+pub fn bounded(n: usize) -> usize
+    requires { ⌜ n ≤ nMax ⌝ }
+    ensures { λ r. ⌜ r ≡ n ⌝ }
+{
+    if n < N { n } else { N }
 }
 
 // The terms of a line from after its key.
@@ -151,6 +165,7 @@ pub fn terms_from(s: &[u8], from: usize, n: usize) -> TermsAt
             equation: zero_equation(),
         };
     }
+    let few = bounded(n);
     let zero = zero_term();
     let mut terms = [zero; TERMS];
     let mut far = false;
@@ -158,13 +173,13 @@ pub fn terms_from(s: &[u8], from: usize, n: usize) -> TermsAt
     let mut a = from;
     let mut more = true;
     while more {
-        let r = term_at(s, a, n);
+        let r = term_at(s, a, few);
         let next = r.next;
         if next == a {
-            return bad_terms();
+            return bad_terms(count, a);
         }
         if !is_mark(s, next) {
-            return bad_terms();
+            return bad_terms(count, a);
         }
         let t = r.term;
         let at = count;
@@ -191,7 +206,7 @@ pub fn terms_at(s: &[u8], from: usize, n: usize) -> TermsAt
 {
     let key = b"eq=";
     if !key_at(s, from, key) {
-        return bad_terms();
+        return bad_terms(0, from);
     }
     terms_from(s, from + key.len(), n)
 }

@@ -5,7 +5,7 @@ use mir.Val.{SFits}
 use mir.Facts.{toZ-ofZ}
 use borrow.Author.Needs.{needs}
 use Rattle.sentences.specs.Sentences.{slipWords}
-use Rattle.sentences.proofs.Says.{says-most, says-none, says-words}
+use Rattle.sentences.proofs.Says.{says-most, says-none}
 use Rattle.sentences.proofs.put_slip.Statement.{statement}
 use Rattle.sentences.proofs.put_slip.Tie as tie
 
@@ -16,8 +16,8 @@ returns c = rw (c .enum-told .given .1) (says-none _ _ _)
 returns-2 : tie.Need-returns-2
 unfolding slipWords
 returns-2 c =
-    rw (c .before .before .before .before .before .before .enum-told2 .given .1)
-    (says-most _ (omega arith) (c .before .before .tell .ensures))
+    rw (c .before .before .before .before .enum-told2 .given .1)
+    (says-most _ (omega arith) (c .before .before .put-long .ensures))
 
 returns-3 : tie.Need-returns-3
 unfolding slipWords
@@ -52,8 +52,8 @@ returns-7 c =
 returns-8 : tie.Need-returns-8
 unfolding slipWords
 returns-8 c =
-    rw (c .before .before .before .before .before .enum-told3 .given .1)
-    (says-most _ (omega arith) (says-words (c .before .before .put-bytes .ensures)))
+    rw (c .before .before .before .before .enum-told3 .given .1)
+    (says-most _ (omega arith) (c .before .before .put-short .ensures))
 
 returns-9 : tie.Need-returns-9
 unfolding slipWords
@@ -66,10 +66,9 @@ returns-9 c =
 pub put-slip-spec : {M : Type 1} → statement M
 put-slip-spec =
     tie.close
-    (tie.spec (λ c. search needs) (λ c. search needs) (λ c. search needs) (λ c. search needs) (λ c κs. search needs)
-    (λ c. search needs) (λ c κs. search needs) (λ c. search needs) (λ c κs. search needs) (λ c. search needs)
+    (tie.spec (λ c. search needs) (λ c. search needs) (λ c κs. search needs) (λ c. search needs)
     (λ c κs. search needs) (λ c. search needs) (λ c κs. search needs) (λ c. search needs) (λ c κs. search needs)
-    (λ c. search needs) (λ c. search needs) (λ c κs. search needs) (λ c. search needs) (λ c κs. search needs) returns
-    (λ c. search needs) returns-2 (λ c. search needs) returns-3 (λ c. search needs) returns-4 (λ c. search needs)
-    returns-5 (λ c. search needs) returns-6 (λ c. search needs) returns-7 (λ c. search needs) returns-8
-    (λ c. search needs) returns-9)
+    (λ c. search needs) (λ c κs. search needs) (λ c. search needs) (λ c κs. search needs) (λ c. search needs)
+    (λ c κs. search needs) (λ c. search needs) (λ c κs. search needs) returns (λ c. search needs) returns-2
+    (λ c. search needs) returns-3 (λ c. search needs) returns-4 (λ c. search needs) returns-5 (λ c. search needs)
+    returns-6 (λ c. search needs) returns-7 (λ c. search needs) returns-8 (λ c. search needs) returns-9)

@@ -8,13 +8,13 @@ use Rattle.sentences.proofs.spelled.put_count_not.Tie as tie
 returns : tie.Need-returns
 returns c =
     let last = c .before .before in
-    let part2 = last .before .before .before .before .before .before in
+    let part2 = last .before .before .before .before .before in
     let part1 = part2 .before .before .before .before .before .before in
     says-most _ (omega arith) (says-then (says-then (part1 .tell .ensures) (part2 .tell-some .ensures))
-    (last .tell2 .ensures))
+    (last .tell-first .ensures))
 
 pub put-count-not-spec : {M : Type 1} → statement M
 put-count-not-spec =
     tie.close
     (tie.spec (λ c. search needs) (λ c. search needs) (λ c κs. search needs) (λ c. search needs) (λ c. search needs)
-    (λ c κs. search needs) (λ c. search needs) (λ c. search needs) (λ c κs. search needs) (λ c. search needs) returns)
+    (λ c κs. search needs) (λ c. search needs) (λ c κs. search needs) (λ c. search needs) returns)

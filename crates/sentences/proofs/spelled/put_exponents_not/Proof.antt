@@ -8,15 +8,15 @@ use Rattle.sentences.proofs.spelled.put_exponents_not.Tie as tie
 returns : tie.Need-returns
 returns c =
     let last = c .before .before in
-    let part3 = last .before .before .before .before .before .before in
-    let part2 = part3 .before .before .before .before .before .before in
+    let part3 = last .before .before .before .before .before in
+    let part2 = part3 .before .before .before .before .before in
     let part1 = part2 .before .before .before .before .before .before in
     says-most _ (omega arith) (says-then (says-then (says-then (part1 .tell .ensures) (part2 .tell-some .ensures))
-    (part3 .tell2 .ensures)) (last .tell3 .ensures))
+    (part3 .tell-first .ensures)) (last .tell-first2 .ensures))
 
 pub put-exponents-not-spec : {M : Type 1} → statement M
 put-exponents-not-spec =
     tie.close
     (tie.spec (λ c. search needs) (λ c. search needs) (λ c κs. search needs) (λ c. search needs) (λ c. search needs)
-    (λ c κs. search needs) (λ c. search needs) (λ c. search needs) (λ c κs. search needs) (λ c. search needs)
-    (λ c. search needs) (λ c κs. search needs) (λ c. search needs) returns)
+    (λ c κs. search needs) (λ c. search needs) (λ c κs. search needs) (λ c. search needs) (λ c κs. search needs)
+    (λ c. search needs) returns)

@@ -10,71 +10,30 @@ returns : tie.Need-returns
 unfolding lineSlipWords
 returns c =
     rw (c .before .before .before .before .before .enum-told .given .1)
-    (says-most _ (omega arith) (c .before .before .put-line-not .ensures))
+    (says-most _ (omega arith) (c .before .before .put-line .ensures))
 
 returns-2 : tie.Need-returns-2
 unfolding lineSlipWords
 returns-2 c =
     rw (c .before .before .before .before .before .enum-told2 .given .1)
-    (says-most _ (omega arith) (c .before .before .put-line .ensures))
+    (says-most _ (omega arith) (c .before .before .put-line2 .ensures))
 
 returns-3 : tie.Need-returns-3
 unfolding lineSlipWords
 returns-3 c =
     rw (c .before .before .before .before .before .enum-told3 .given .1)
-    (says-most _ (omega arith) (c .before .before .put-line-not2 .ensures))
+    (says-most _ (omega arith) (c .before .before .put-line3 .ensures))
 
 returns-4 : tie.Need-returns-4
 unfolding lineSlipWords
 returns-4 c =
     rw (c .before .before .before .before .before .enum-told4 .given .1)
-    (says-most _ (omega arith) (c .before .before .put-line2 .ensures))
-
-returns-5 : tie.Need-returns-5
-unfolding lineSlipWords
-returns-5 c =
-    rw (c .before .before .before .before .before .enum-told5 .given .1)
-    (says-most _ (omega arith) (c .before .before .put-line3 .ensures))
-
-returns-6 : tie.Need-returns-6
-unfolding lineSlipWords
-returns-6 c =
-    rw (c .before .before .before .before .before .enum-told6 .given .1)
     (says-most _ (omega arith) (c .before .before .put-line4 .ensures))
-
-returns-7 : tie.Need-returns-7
-unfolding lineSlipWords
-returns-7 c =
-    rw (c .before .before .before .before .before .enum-told7 .given .1)
-    (says-most _ (omega arith) (c .before .before .put-line-not3 .ensures))
-
-returns-8 : tie.Need-returns-8
-unfolding lineSlipWords
-returns-8 c =
-    rw (c .before .before .before .before .before .enum-told8 .given .1)
-    (says-most _ (omega arith) (c .before .before .put-line-not4 .ensures))
-
-returns-9 : tie.Need-returns-9
-unfolding lineSlipWords
-returns-9 c =
-    rw (c .before .before .before .before .before .enum-told9 .given .1)
-    (says-most _ (omega arith) (c .before .before .put-line-not5 .ensures))
-
-returns-10 : tie.Need-returns-10
-unfolding lineSlipWords
-returns-10 c =
-    rw (c .before .before .before .before .before .enum-told10 .given .1)
-    (says-most _ (omega arith) (c .before .before .put-line-not6 .ensures))
 
 pub put-line-slip-spec : {M : Type 1} → statement M
 put-line-slip-spec =
     tie.close
     (tie.spec (λ c. search needs) (λ c. search needs) (λ c κs. search needs) (λ c. search needs) (λ c. search needs)
     (λ c κs. search needs) (λ c. search needs) (λ c. search needs) (λ c κs. search needs) (λ c. search needs)
-    (λ c. search needs) (λ c κs. search needs) (λ c. search needs) (λ c. search needs) (λ c κs. search needs)
-    (λ c. search needs) (λ c. search needs) (λ c κs. search needs) (λ c. search needs) (λ c. search needs)
-    (λ c κs. search needs) (λ c. search needs) (λ c. search needs) (λ c κs. search needs) (λ c. search needs)
-    (λ c. search needs) (λ c κs. search needs) (λ c. search needs) (λ c. search needs) (λ c κs. search needs)
-    (λ c. search needs) returns (λ c. search needs) returns-2 (λ c. search needs) returns-3 (λ c. search needs)
-    returns-4 (λ c. search needs) returns-5 (λ c. search needs) returns-6 (λ c. search needs) returns-7
-    (λ c. search needs) returns-8 (λ c. search needs) returns-9 (λ c. search needs) returns-10)
+    (λ c. search needs) (λ c κs. search needs) (λ c. search needs) returns (λ c. search needs) returns-2
+    (λ c. search needs) returns-3 (λ c. search needs) returns-4)

@@ -13,7 +13,7 @@ returns c =
     let part2 = part3 .before .before .before .before .before in
     let part1 = part2 .before .before .before .before in
     says-most _ (omega arith) (says-then (says-then (says-then (says-then (part1 .tell .ensures)
-    (part2 .put-key .ensures)) (says-words (part3 .put-bytes .ensures))) (part4 .put-own-key .ensures))
+    (part2 .put-key .ensures)) (says-words (part3 .put-bytes .ensures))) (part4 .put-key2 .ensures))
     (says-words (last .put-bytes2 .ensures)))
 
 pub put-other-key-spec : {M : Type 1} → statement M

@@ -15,8 +15,8 @@ returns c =
 returns-2 : tie.Need-returns-2
 unfolding termWords
 returns-2 c =
-    rw (c .before .before .before .before .before .before .before .slip2 .given .1)
-    (says-most _ (omega arith) (c .before .before .tell .ensures))
+    rw (c .before .before .before .before .before .slip2 .given .1)
+    (says-most _ (omega arith) (c .before .before .put-zero .ensures))
 
 returns-3 : tie.Need-returns-3
 unfolding termWords
@@ -45,8 +45,8 @@ returns-6 c =
 pub put-terms-spec : {M : Type 1} → statement M
 put-terms-spec =
     tie.close
-    (tie.spec (λ c. search needs) (λ c κs. search needs) (λ c. search needs) (λ c. search needs) (λ c. search needs)
-    (λ c κs. search needs) (λ c. search needs) (λ c κs. search needs) (λ c. search needs) (λ c κs. search needs)
-    (λ c. search needs) (λ c κs. search needs) (λ c. search needs) (λ c. search needs) (λ c κs. search needs)
-    (λ c. search needs) returns (λ c. search needs) returns-2 (λ c. search needs) returns-3 (λ c. search needs)
-    returns-4 (λ c. search needs) returns-5 (λ c. search needs) returns-6)
+    (tie.spec (λ c. search needs) (λ c κs. search needs) (λ c. search needs) (λ c κs. search needs)
+    (λ c. search needs) (λ c κs. search needs) (λ c. search needs) (λ c κs. search needs) (λ c. search needs)
+    (λ c κs. search needs) (λ c. search needs) (λ c. search needs) (λ c κs. search needs) (λ c. search needs) returns
+    (λ c. search needs) returns-2 (λ c. search needs) returns-3 (λ c. search needs) returns-4 (λ c. search needs)
+    returns-5 (λ c. search needs) returns-6)
