@@ -31,10 +31,6 @@ sized x = isWithin (x .coef) (pos entryMax)
 record Near (a : Terms) : Type 0 where
   each : a .far ≡ false → (k : ℕ) → sized (getD (a .equation .terms) k noTerm) ≡ true
 
-zero-sized : sized noTerm ≡ true
-unfolding isWithin
-zero-sized = refl
-
 zeros-sized : (m k : ℕ) → sized (getD (replicate m zeroTerm) k noTerm) ≡ true
 unfolding isWithin
 zeros-sized zero k = refl
