@@ -8,4 +8,10 @@ floodrafter_answer peer_solve(const uint8_t *text, size_t text_len, uint8_t *out
 
 floodrafter_answer peer_check_job(const uint8_t *text, size_t text_len);
 
+floodrafter_shown peer_start(const uint8_t *text, size_t text_len);
+
+floodrafter_shown peer_image(const uint8_t *text, size_t text_len, floodrafter_box x);
+
+floodrafter_move peer_decide(size_t n, floodrafter_box x, floodrafter_box k);
+
 #endif

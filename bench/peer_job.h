@@ -2,11 +2,13 @@
 #ifndef PEER_JOB_H
 #define PEER_JOB_H
 
+#include <stdbool.h>
+
 #include "floodrafter.h"
 
 /* Document 01, "Numbers and sizes". */
 enum {
-    UNKNOWNS_MAX = 4,
+    UNKNOWNS_MAX = FLOODRAFTER_N,
     TERMS_MAX = 16,
     DEGREE_MAX = 3,
     STEPS_MAX = 1000,
@@ -18,7 +20,7 @@ enum {
 
 enum kind { POLY, LINEAR, EIGEN };
 
-enum verdict { NONE, UNIQUE, STALLED, SPENT };
+enum verdict { NONE = FLOODRAFTER_NONE, UNIQUE = FLOODRAFTER_UNIQUE, STALLED = FLOODRAFTER_STALLED, SPENT };
 
 struct interval {
     int64_t lo, hi;
@@ -51,6 +53,12 @@ struct outcome {
     int64_t steps;
     struct interval box[UNKNOWNS_MAX];
 };
+
+/* Is the number beyond its size, which is the same either way? */
+static inline bool beyond(int64_t value, int64_t limit)
+{
+    return value < -limit || limit < value;
+}
 
 /* Reads a job text: its fault and line. Only a job without a fault is whole. */
 floodrafter_answer read_job(const uint8_t *text, size_t text_len, struct job *job);

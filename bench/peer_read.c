@@ -1,5 +1,4 @@
 /* The reader of a job text: document 01, "The job text and the result text" and "Fault numbers". */
-#include <stdbool.h>
 #include <string.h>
 
 #include "peer_job.h"
@@ -51,11 +50,6 @@ static const uint8_t *read_number(const uint8_t *p, int64_t *value)
     }
     *value = minus ? -(int64_t)magnitude : (int64_t)magnitude;
     return p;
-}
-
-static bool beyond(int64_t value, int64_t limit)
-{
-    return value < -limit || limit < value;
 }
 
 /* The rest of a line: `count` numbers, each at most `limit` either way. */

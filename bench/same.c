@@ -19,14 +19,19 @@ static bool equal(floodrafter_answer a, floodrafter_answer b)
     return a.fault == b.fault && a.line == b.line && a.len == b.len;
 }
 
+static void tell_text(const uint8_t *text, size_t text_len)
+{
+    printf("text of %zu bytes:\n", text_len);
+    fwrite(text, 1, text_len, stdout);
+    putchar('\n');
+}
+
 static void tell(const char *entry, const uint8_t *text, size_t text_len, floodrafter_answer library, floodrafter_answer peer)
 {
     printf("%s: the answers differ\n", entry);
     printf("library: fault %llu, line %llu, length %zu\n", (unsigned long long)library.fault, (unsigned long long)library.line, library.len);
     printf("peer:    fault %llu, line %llu, length %zu\n", (unsigned long long)peer.fault, (unsigned long long)peer.line, peer.len);
-    printf("text of %zu bytes:\n", text_len);
-    fwrite(text, 1, text_len, stdout);
-    putchar('\n');
+    tell_text(text, text_len);
 }
 
 /* Both solve into a buffer of out_len bytes; every byte of it is held against the other's, those beyond the answer too. */
@@ -45,6 +50,69 @@ static bool same_solved(const uint8_t *text, size_t text_len, size_t out_len, fl
     return false;
 }
 
+static void tell_box(const char *name, const floodrafter_box *b)
+{
+    printf("%-8s", name);
+    for (size_t i = 0; i < FLOODRAFTER_N; i++)
+        printf(" [%lld, %lld]", (long long)b->lo[i], (long long)b->hi[i]);
+    putchar('\n');
+}
+
+static bool equal_boxes(const floodrafter_box *a, const floodrafter_box *b)
+{
+    return memcmp(a, b, sizeof *a) == 0;
+}
+
+static bool same_shown(const char *entry, floodrafter_shown library, floodrafter_shown peer)
+{
+    if (library.fault == peer.fault && library.line == peer.line && library.n == peer.n && equal_boxes(&library.box, &peer.box))
+        return true;
+    printf("%s: the answers differ\n", entry);
+    printf("library: fault %llu, line %llu, n %zu\n", (unsigned long long)library.fault, (unsigned long long)library.line, library.n);
+    printf("peer:    fault %llu, line %llu, n %zu\n", (unsigned long long)peer.fault, (unsigned long long)peer.line, peer.n);
+    tell_box("library:", &library.box);
+    tell_box("peer:", &peer.box);
+    return false;
+}
+
+static bool same_image(const uint8_t *text, size_t text_len, floodrafter_box x)
+{
+    if (same_shown("image", floodrafter_image(text, text_len, x), peer_image(text, text_len, x)))
+        return true;
+    tell_box("box:", &x);
+    tell_text(text, text_len);
+    return false;
+}
+
+static bool same_decided(size_t n, floodrafter_box x, floodrafter_box k)
+{
+    floodrafter_move library = floodrafter_decide(n, x, k), peer = peer_decide(n, x, k);
+    if (library.fault == peer.fault && library.line == peer.line && library.verdict == peer.verdict && equal_boxes(&library.box, &peer.box))
+        return true;
+    printf("decide: the answers differ\n");
+    printf("library: fault %llu, line %llu, verdict %llu\n", (unsigned long long)library.fault, (unsigned long long)library.line,
+           (unsigned long long)library.verdict);
+    printf("peer:    fault %llu, line %llu, verdict %llu\n", (unsigned long long)peer.fault, (unsigned long long)peer.line,
+           (unsigned long long)peer.verdict);
+    tell_box("library:", &library.box);
+    tell_box("peer:", &peer.box);
+    printf("n:       %zu\n", n);
+    tell_box("box:", &x);
+    tell_box("image:", &k);
+    return false;
+}
+
+/* The first step of a job, operation by operation. Of a text with a fault n and the box are zero, and each operation has a fault to give. */
+static bool same_step(const uint8_t *text, size_t text_len)
+{
+    floodrafter_shown x = peer_start(text, text_len);
+    if (!same_shown("start", floodrafter_start(text, text_len), x)) {
+        tell_text(text, text_len);
+        return false;
+    }
+    return same_image(text, text_len, x.box) && same_decided(x.n, x.box, peer_image(text, text_len, x.box).box);
+}
+
 bool same_answers(const uint8_t *text, size_t text_len)
 {
     floodrafter_answer library = floodrafter_check_job(text, text_len);
@@ -54,11 +122,19 @@ bool same_answers(const uint8_t *text, size_t text_len)
         return false;
     }
     floodrafter_answer answer, again;
-    if (!same_solved(text, text_len, FLOODRAFTER_TEXT_MAX, &answer))
+    if (!same_step(text, text_len) || !same_solved(text, text_len, FLOODRAFTER_TEXT_MAX, &answer))
         return false;
     /* The shortest buffer that is enough, and one byte less. */
     return answer.fault != FLOODRAFTER_DONE ||
            (same_solved(text, text_len, answer.len, &again) && same_solved(text, text_len, answer.len - 1, &again));
+}
+
+/* The text of any request is a job's, or gets a fault as one; the box and the image that stand in the line are held too. */
+static bool same_request(const struct request *r)
+{
+    if (strcmp(r->word, "decide") == 0)
+        return same_decided(r->n, r->x, r->k);
+    return same_answers(r->text.at, r->text.len) && (!r->boxed || same_image(r->text.at, r->text.len, r->x));
 }
 
 bool same_answers_in_file(const char *name, size_t *count)
@@ -66,7 +142,7 @@ bool same_answers_in_file(const char *name, size_t *count)
     struct bytes requests = whole_file(name);
     struct request r;
     for (*count = 0; next_request(&requests, &r); *count += 1) {
-        if (!same_answers(r.text.at, r.text.len))
+        if (!same_request(&r))
             return false;
     }
     return true;

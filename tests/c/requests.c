@@ -43,14 +43,84 @@ static const char *cut_line(struct bytes *from)
     return (const char *)cut(from, (size_t)(end - from->at) + 1).at;
 }
 
+/* How many words the three sorts of lines have. */
+enum { BARE = 2, WITH_BOX = 4, WITH_BOX_AND_IMAGE = 7, WORDS_MAX = WITH_BOX_AND_IMAGE };
+
+/* Where the words of a line begin. */
+struct words {
+    const char *at[WORDS_MAX];
+    size_t count;
+};
+
+static struct words words_of(const char *line)
+{
+    struct words w = {.count = 0};
+    do {
+        if (w.count == WORDS_MAX)
+            broken("a request has too many words");
+        w.at[w.count++] = line;
+        line += strcspn(line, " \n");
+    } while (*line++ == ' ');
+    return w;
+}
+
+static void read_word(const char *from, char *word, size_t room)
+{
+    size_t len = strcspn(from, " \n");
+    if (len >= room)
+        broken("a request has a long word");
+    memcpy(word, from, len);
+    word[len] = 0;
+}
+
+/* The number of a word; the greatest there is where that is greater. */
+static size_t read_count(const char *from)
+{
+    char *end;
+    size_t count = strtoul(from, &end, 10);
+    if (end == from || (*end != ' ' && *end != '\n'))
+        broken("a request has no number where one belongs");
+    return count;
+}
+
+static void read_ends(const char *from, int64_t *ends)
+{
+    char *end;
+    for (size_t i = 0; i < FLOODRAFTER_N; i++, from = end + 1) {
+        ends[i] = strtoll(from, &end, 10);
+        if (end == from || (*end != ' ' && *end != ','))
+            break;
+        if (*end == ' ')
+            return;
+    }
+    broken("a request has no list where one belongs");
+}
+
+static floodrafter_box read_box(const char *lo, const char *hi)
+{
+    floodrafter_box b = {{0}, {0}};
+    read_ends(lo, b.lo);
+    read_ends(hi, b.hi);
+    return b;
+}
+
 bool next_request(struct bytes *requests, struct request *r)
 {
-    size_t len;
     if (requests->len == 0)
         return false;
-    if (sscanf(cut_line(requests), "%7s %zu", r->word, &len) != 2)
+    struct words w = words_of(cut_line(requests));
+    *r = (struct request){.boxed = w.count > BARE};
+    if (w.count == WITH_BOX_AND_IMAGE) {
+        r->n = read_count(w.at[1]);
+        r->x = read_box(w.at[2], w.at[3]);
+        r->k = read_box(w.at[4], w.at[5]);
+    } else if (w.count == WITH_BOX) {
+        r->x = read_box(w.at[1], w.at[2]);
+    } else if (w.count != BARE) {
         broken("a request has no header");
-    r->text = cut(requests, len);
+    }
+    read_word(w.at[0], r->word, sizeof r->word);
+    r->text = cut(requests, read_count(w.at[w.count - 1]));
     return true;
 }
 

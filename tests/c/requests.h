@@ -1,4 +1,5 @@
-/* The files that the program's cases stand in: requests, each a line `OP LENGTH` and LENGTH bytes, and answers, each a line with its length and its bytes. */
+/* The files that the program's cases stand in: requests, each a line `OP ARGS.. LENGTH` and LENGTH bytes, and answers, each a line with its length and
+ * its bytes. */
 #ifndef REQUESTS_H
 #define REQUESTS_H
 
@@ -6,13 +7,19 @@
 #include <stddef.h>
 #include <stdint.h>
 
+#include "floodrafter.h"
+
 struct bytes {
     const uint8_t *at;
     size_t len;
 };
 
+/* `OP LENGTH`, `image LO HI LENGTH` or `decide N LO HI KLO KHI LENGTH`. What a line does not name is zero, and so is a place that a list leaves out. */
 struct request {
     char word[8];
+    bool boxed; /* LO and HI are there */
+    size_t n;   /* SIZE_MAX where the line's number is greater */
+    floodrafter_box x, k;
     struct bytes text;
 };
 

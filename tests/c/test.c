@@ -1,34 +1,15 @@
 /* The C library on every request of the program's cases: test REQUESTS ANSWERS. Each answer is held to the one of the second program, and each lent
  * buffer to what the header says of it. */
-#include "floodrafter.h"
-#include "requests.h"
+#include "steps.h"
 
-#include <inttypes.h>
 #include <stdio.h>
 #include <string.h>
 
-enum { ROOM = 2 * FLOODRAFTER_TEXT_MAX, OLD = 0xA5, PRINTED = 64 };
+enum { ROOM = 2 * FLOODRAFTER_TEXT_MAX, OLD = 0xA5 };
 
 typedef floodrafter_answer writer(const uint8_t *text, size_t text_len, uint8_t *out, size_t out_len);
 typedef floodrafter_answer checker(const uint8_t *text, size_t text_len);
 typedef size_t explainer(const uint8_t *text, size_t text_len, uint8_t *out, size_t out_len);
-
-/* A request, the answer that is expected, and how many came before it. */
-struct asked {
-    struct request request;
-    struct bytes answer;
-    unsigned long before;
-};
-
-static unsigned long failures;
-
-static void expect(bool holds, const struct asked *r, const char *what)
-{
-    if (holds)
-        return;
-    failures++;
-    fprintf(stderr, "request %lu (%s): %s\n", r->before + 1, r->request.word, what);
-}
 
 static bool is_old(const uint8_t *from, size_t len)
 {
@@ -38,17 +19,10 @@ static bool is_old(const uint8_t *from, size_t len)
     return true;
 }
 
-static bool same(struct bytes b, const void *at, size_t len)
-{
-    return b.len == len && memcmp(b.at, at, len) == 0;
-}
-
-/* "A fault .. writes nowhere"; the program tells it in two lines. */
+/* "A fault .. writes nowhere". */
 static void expect_fault(const struct asked *r, floodrafter_answer a, const uint8_t *out)
 {
-    char told[PRINTED];
-    int len = snprintf(told, sizeof told, "fault=%" PRIu64 "\nline=%" PRIu64 "\n", a.fault, a.line);
-    expect(same(r->answer, told, (size_t)len), r, "another fault or line");
+    expect_told(r, a.fault, a.line);
     expect(a.len == 0, r, "a length beside a fault");
     expect(is_old(out, ROOM), r, "a fault wrote");
 }
@@ -115,23 +89,34 @@ static void ask(const struct asked *r, writer *write, checker *check, explainer 
 
 static void ask_by_word(const struct asked *r)
 {
-    if (strcmp(r->request.word, "solve") == 0)
+    const char *word = r->request.word;
+    if (strcmp(word, "solve") == 0) {
         ask(r, floodrafter_solve, floodrafter_check_job, floodrafter_explain_job);
-    else if (strcmp(r->request.word, "job") == 0)
+        ask_start(r);
+        ask_walk(r);
+    } else if (strcmp(word, "job") == 0) {
         ask(r, floodrafter_rewrite_job, floodrafter_check_job, floodrafter_explain_job);
-    else if (strcmp(r->request.word, "result") == 0)
+        ask_start(r);
+    } else if (strcmp(word, "result") == 0) {
         ask(r, floodrafter_rewrite_result, floodrafter_check_result, floodrafter_explain_result);
-    else
+    } else if (strcmp(word, "image") == 0) {
+        ask_start(r);
+        ask_image(r);
+    } else if (strcmp(word, "decide") == 0) {
+        ask_decide(r);
+    } else {
         expect(false, r, "no such request");
+    }
 }
 
-/* The header's limit is the library's: "text over 2,048 bytes" is fault 1. */
-static void expect_limit(void)
+/* The header's limits are the library's: "text over 2,048 bytes" is fault 1. */
+static void expect_limits(void)
 {
     static const uint8_t text[FLOODRAFTER_TEXT_MAX + 1];
     const struct asked limit = {.request = {.word = "limit"}};
     expect(floodrafter_check_job(text, FLOODRAFTER_TEXT_MAX).fault != FLOODRAFTER_LONG_TEXT, &limit, "the longest text is too long");
     expect(floodrafter_check_job(text, FLOODRAFTER_TEXT_MAX + 1).fault == FLOODRAFTER_LONG_TEXT, &limit, "a longer text is taken");
+    expect_step_limits(&limit);
 }
 
 int main(int argc, char **argv)
@@ -142,12 +127,12 @@ int main(int argc, char **argv)
     }
     struct bytes requests = whole_file(argv[1]), answers = whole_file(argv[2]);
     struct asked r = {.before = 0};
-    expect_limit();
+    expect_limits();
     while (next_request(&requests, &r.request)) {
         r.answer = next_answer(&answers);
         ask_by_word(&r);
         r.before++;
     }
-    printf("C library: %lu requests, %lu failures\n", r.before, failures);
-    return failures != 0 || r.before == 0 || answers.len != 0;
+    printf("C library: %lu requests, %lu failures\n", r.before, failures());
+    return failures() != 0 || r.before == 0 || answers.len != 0;
 }

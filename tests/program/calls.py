@@ -12,6 +12,8 @@ WAIT = 60                      # seconds after which a call counts as stuck
 
 JOB = (EXAMPLES / "job41.txt").read_bytes()
 RESULT = (EXAMPLES / "job41.out").read_bytes()
+IMAGE = b"klo=81919\nkhi=103766\n"
+DECIDED = b"verdict=unique\nlo=81919\nhi=103766\n"
 
 MAX_TEXT = 2_048
 MAX_HEADER = 4_096
@@ -48,9 +50,9 @@ def pipe_not_waiting(end):
     return ends
 
 
-def request(operation, text):
-    """A request of batch."""
-    return b"%s %d\n" % (operation.encode(), len(text)) + text
+def request(words, text=b""):
+    """A request of batch: an operation with its arguments, and a text."""
+    return b"%s %d\n" % (words.encode(), len(text)) + text
 
 
 def packet(text):

@@ -8,7 +8,8 @@ import unittest
 from decimal import Decimal
 from pathlib import Path
 
-from calls import EXAMPLES, JOB, PROGRAM, RESULT, WAIT, call, call_by_shell, request, packet, start
+from calls import (DECIDED, EXAMPLES, IMAGE, JOB, PROGRAM, RESULT, WAIT, call, call_by_shell, packet, request,
+                   start)
 
 JOB_FILE = str(EXAMPLES / "job41.txt")
 RESULT_FILE = str(EXAMPLES / "job41.out")
@@ -19,6 +20,7 @@ class Commands(unittest.TestCase):
 
     def test_texts(self):
         for command, text, answer in (("solve", JOB, RESULT), ("job", JOB, JOB), ("result", RESULT, RESULT),
+                                      ("image", JOB, IMAGE), ("step", JOB, IMAGE + DECIDED),
                                       ("batch", request("job", JOB), packet(JOB))):
             self.assertEqual(call(command, given=text), (0, answer, ""))
             self.assertEqual(call(command, "-", given=text), (0, answer, ""))
@@ -27,6 +29,8 @@ class Commands(unittest.TestCase):
         self.assertEqual(call("solve", JOB_FILE), (0, RESULT, ""))
         self.assertEqual(call("job", JOB_FILE), (0, JOB, ""))
         self.assertEqual(call("result", RESULT_FILE), (0, RESULT, ""))
+        self.assertEqual(call("image", JOB_FILE), (0, IMAGE, ""))
+        self.assertEqual(call("step", JOB_FILE), (0, IMAGE + DECIDED, ""))
         with tempfile.NamedTemporaryFile() as file:
             file.write(request("solve", JOB) * 2)
             file.flush()
@@ -37,6 +41,31 @@ class Commands(unittest.TestCase):
             answer = job.with_suffix(".out").read_bytes()
             ended = call("solve", str(job))
             self.assertEqual((ended.status, ended.out), (1 if answer.startswith(b"fault=") else 0, answer))
+
+    def test_step(self):
+        """Each of the four decisions; the allowance plays no part."""
+        for old, new, answer in (
+                (b"steps=8", b"steps=0", IMAGE + DECIDED),
+                (b"inv=21845", b"inv=0", b"klo=65536\nkhi=131072\nverdict=stalled\nlo=65536\nhi=131072\n"),
+                (b"65536:2,-131072:0", b"65536:0", b"klo=43691\nkhi=109227\nverdict=next\nlo=65536\nhi=109227\n"),
+                (b"lo=65536", b"lo=131072", b"klo=87382\nkhi=87382\nverdict=none\nlo=131072\nhi=131072\n")):
+            self.assertEqual(call("step", given=JOB.replace(old, new)), (0, answer, ""))
+
+    def test_steps_of_the_examples(self):
+        """A step prints the image first; where it decides it prints what a run of one step answers."""
+        for job in sorted(EXAMPLES.glob("*.txt")):
+            answer = job.with_suffix(".out").read_bytes()
+            image, step = call("image", str(job)), call("step", str(job))
+            if answer.startswith(b"fault="):
+                self.assertEqual((image.status, image.out, step.status, step.out), (1, answer, 1, answer))
+                continue
+            self.assertEqual((image.status, image.err, step.status, step.err), (0, "", 0, ""))
+            self.assertEqual(step.out[:len(image.out)], image.out)
+            decided, (_, verdict, steps, *box) = step.out[len(image.out):].splitlines(), answer.splitlines()
+            if steps == b"steps=1":
+                self.assertEqual(decided, [verdict, *box])
+            else:
+                self.assertEqual(decided[0], b"verdict=next")
 
     def test_units(self):
         self.assertEqual(call("show", JOB_FILE).out, RESULT + b"unknown 1: 1.2499847412109375 to 1.583343505859375\n")
@@ -57,7 +86,7 @@ class Commands(unittest.TestCase):
     def test_help(self):
         page = call("help")
         self.assertEqual((page.status, page.err), (0, ""))
-        for command in (b"solve", b"show", b"job", b"result", b"batch", b"help", b"version"):
+        for command in (b"solve", b"show", b"image", b"step", b"job", b"result", b"batch", b"help", b"version"):
             self.assertIn(b"floodrafter " + command, page.out)
         self.assertIn(b"Exit status: 0 answered; 1 a fault; 2 not run", page.out)
         for words in (("--help",), ("-h",), ("help", "solve"), ("help", "help")):
@@ -66,7 +95,7 @@ class Commands(unittest.TestCase):
     def test_help_on_batch(self):
         page = call("help", "batch")
         self.assertEqual((page.status, page.err), (0, ""))
-        for fact in (b"OP LENGTH", b"4096", b"error="):
+        for fact in (b"LENGTH", b"image LO HI", b"decide N LO HI KLO KHI", b"4096", b"error="):
             self.assertIn(fact, page.out)
 
 
@@ -85,7 +114,8 @@ class WrongCalls(unittest.TestCase):
         self.refuses(("help", "sovle"), "floodrafter: there is no command 'sovle'\n")
 
     def test_arguments(self):
-        for words in (("solve", JOB_FILE, JOB_FILE), ("batch", "-", "-"), ("version", "1"), ("help", "batch", "1")):
+        for words in (("solve", JOB_FILE, JOB_FILE), ("image", JOB_FILE, "0"), ("step", "-", "-"), ("batch", "-", "-"),
+                      ("version", "1"), ("help", "batch", "1")):
             self.refuses(words, "floodrafter: too many arguments\n")
 
 

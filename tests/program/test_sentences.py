@@ -150,7 +150,7 @@ class Faults(unittest.TestCase):
                 self.refuses("job", changed(JOB, number, line), fault, number, sentence)
 
     def test_commands(self):
-        for command in ("solve", "show"):
+        for command in ("solve", "show", "image", "step"):
             number, line, fault, sentence = JOB_FAULTS[0]
             self.refuses(command, changed(JOB, number, line), fault, number, sentence)
 
@@ -173,11 +173,11 @@ class Faults(unittest.TestCase):
 
     def test_too_long(self):
         for length in (MAX_TEXT + 1, 70_000):
-            for command in ("solve", "result"):
+            for command in ("solve", "result", "image", "step"):
                 self.refuses(command, b"x" * length, 1, 0, f"a text has at most {MAX_TEXT} bytes, this one has more")
 
     def test_empty(self):
-        for command in ("solve", "result"):
+        for command in ("solve", "result", "image", "step"):
             self.refuses(command, b"", 2, 1, "the text is empty" + NUMBER)
 
     def test_missing_line(self):

@@ -11,7 +11,7 @@ import unittest
 from calls import EXAMPLES, JOB, MAX_TEXT, RESULT, WAIT, call, call_by_shell, packet, pipe_not_waiting, request, start
 
 JOB_FILE = str(EXAMPLES / "job41.txt")
-READERS = ("solve", "show", "job", "result", "batch")
+READERS = ("solve", "show", "image", "step", "job", "result", "batch")
 
 
 class Reading(unittest.TestCase):
@@ -92,8 +92,8 @@ class Writing(unittest.TestCase):
 
     def refuses(self, redirection, why):
         """By every command that writes."""
-        for words in (("solve", JOB_FILE), ("show", JOB_FILE), ("job", JOB_FILE), ("result", JOB_FILE), ("batch",),
-                      ("help",), ("help", "batch"), ("version",)):
+        for words in (("solve", JOB_FILE), ("show", JOB_FILE), ("image", JOB_FILE), ("step", JOB_FILE),
+                      ("job", JOB_FILE), ("result", JOB_FILE), ("batch",), ("help",), ("help", "batch"), ("version",)):
             ended = call_by_shell(redirection, *words, given=request("solve", JOB))
             self.assertEqual(ended, (2, b"", f"floodrafter: standard output: {why}\n"))
 

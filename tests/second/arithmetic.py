@@ -20,6 +20,7 @@ MAX_ENTRY = 4_194_304           # "Coefficients, matrix entries, right sides and
 MAX_TERMS = 16                  # "A polynomial equation has 0 to 16 terms"
 MAX_DEGREE = 3                  # "each of total degree 0 to 3"
 MAX_TEXT = 2_048                # "Text: at most 2,048 bytes"
+MAX_IMAGE = 2 ** 46             # document 02, P7: "from -2^46 to 2^46"
 
 KINDS = ("poly", "linear", "eigen")
 VERDICTS = ("none", "unique", "stalled", "spent")
@@ -215,6 +216,11 @@ def decide(X, K):
     return None, smaller
 
 
+def ends_of(box):
+    """The low ends and the high ends of a box."""
+    return [low for low, _ in box], [high for _, high in box]
+
+
 def rows_of(job):
     """The proposed inverse as rows."""
     return [job.inv[i * job.n:(i + 1) * job.n] for i in range(job.n)]
@@ -243,5 +249,4 @@ def run(job):
     verdict, steps, box = None, 0, list(zip(job.lo, job.hi))
     for _, _, verdict, box in trace(job):
         steps += 1
-    return Result(job.job, verdict or "spent", steps,
-                  [low for low, _ in box], [high for _, high in box])
+    return Result(job.job, verdict or "spent", steps, *ends_of(box))

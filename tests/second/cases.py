@@ -1,15 +1,18 @@
-"""Cases from a seed: requests (operation, text) with the expected answers.
+"""Cases from a seed: requests (words, text) with the expected answers.
 
 About half are right texts; the others are damaged ones.  The fixed cases come
 first: the documents' examples and the places their readers get wrong.
 """
 
-from arithmetic import (Job, KINDS, MARK, MAX_END, MAX_ENTRY, MAX_JOB, MAX_N,
-                        MAX_STEPS, MAX_TERMS, Result, VERDICTS)
+from answers import answer
+from arithmetic import (Job, KINDS, MARK, MAX_END, MAX_ENTRY, MAX_N, MAX_TERMS, Result,
+                        VERDICTS, ends_of)
 from damage import DIGITS, JOBS, STEPS, WORDS, at_limits, bytes_of, damaged
 from dice import Dice
-from jobs import allowance, job_number, monomials, random_job, symmetric_job
-from texts import answer, job_text, result_text
+from jobs import (allowance, job_number, largest_job, monomials, random_job,
+                  symmetric_job)
+from step_cases import fixed_steps, random_step
+from texts import job_text, result_text
 
 JOB_41 = Job(41, "poly", 1, [65_536], [131_072], [21_845], 8,
              [[(65_536, (2,)), (-131_072, (0,))]])
@@ -24,18 +27,6 @@ CUBE = Job(5, "poly", 1, [-65_536], [65_536], [26_214], 8,
            [[(65_536, (3,)), (65_536, (1,)), (-32_768, (0,))]])
 EXAMPLES = [JOB_41, T7, T7._replace(steps=1), T9, JOB_41._replace(inv=[0]), T11, T12,
             JOB_41._replace(steps=0), CUBE]
-
-
-def largest_job(kind):
-    """A job with every number as long as it may be."""
-    full = [-MAX_ENTRY] * (MAX_N * MAX_N)
-    width = MAX_N + 1 if kind == "linear" else MAX_N
-    if kind == "poly":
-        line = [(-MAX_ENTRY, e) for e in monomials(MAX_N)[:MAX_TERMS]]
-    else:
-        line = [-MAX_ENTRY] * width
-    return Job(MAX_JOB, kind, MAX_N, [-MAX_END] * MAX_N, [-MAX_END] * MAX_N, full,
-               MAX_STEPS, [line] * MAX_N)
 
 
 def equation_texts():
@@ -72,6 +63,7 @@ def fixed():
         text = job_text(job)
         yield "solve", text
         yield "job", text
+        yield "image", text
         yield "result", answer("solve", text)
     for kind in KINDS:                # all n, nothing but zeros, boxes without width
         for n in range(1, MAX_N + 1):
@@ -90,6 +82,7 @@ def fixed():
     lines = answer("solve", job_text(T11)).split(b"\n")[:-1]
     for text in (*at_limits(lines), *spelling_texts(lines)):
         yield "result", text
+    yield from fixed_steps()
 
 
 def random_result(dice):
@@ -99,8 +92,7 @@ def random_result(dice):
     size = dice.pick([0, 1, 9, MARK, MAX_END])
     ends = [sorted([dice.pick([size, -size, dice.around(size)]), dice.around(size)])
             for _ in range(n)]
-    return Result(job_number(dice), dice.pick(VERDICTS), allowance(dice),
-                  [low for low, _ in ends], [high for _, high in ends])
+    return Result(job_number(dice), dice.pick(VERDICTS), allowance(dice), *ends_of(ends))
 
 
 def small_job(dice):
@@ -128,8 +120,9 @@ def random_case(dice):
 
 def cases(seed, count):
     """count requests, the fixed ones first.  Of the others each tenth is a symmetric
-    job; these have dice of their own, which leave the stream of the rest as it is."""
-    dice, symmetric = Dice(seed), Dice(~seed)
+    job and each tenth one of P7's; both have dice of their own, which leave the stream
+    of the rest as it is."""
+    dice, symmetric, step = Dice(seed), Dice(~seed), Dice(seed + 2 ** 32)
     made = 0
     for case in fixed():
         if made < count:
@@ -138,21 +131,29 @@ def cases(seed, count):
     for number in range(count - made):
         if number % 10 == 9:
             yield "solve", job_text(symmetric_job(symmetric))
+        elif number % 10 == 4:
+            yield random_step(step)
         else:
             yield random_case(dice)
 
 
+def write_case(request, text, requests, answers):
+    """Writes a request and the expected answer to two binary files, and returns the
+    answer's lines."""
+    reply = answer(request, text)
+    requests.write(b"%s %d\n" % (request.encode(), len(text)) + text)
+    answers.write(b"%d\n" % len(reply) + reply)
+    return reply.decode("ascii").split("\n")
+
+
 def write_cases(seed, count, requests, answers):
-    """Writes the batch input and the expected output to two binary files, and
-    returns how often each kind of answer came."""
+    """Writes the batch input and the expected output, and returns how often each kind
+    of answer came."""
     mix = {}
-    for operation, text in cases(seed, count):
-        reply = answer(operation, text)
-        requests.write(b"%s %d\n" % (operation.encode(), len(text)) + text)
-        answers.write(b"%d\n" % len(reply) + reply)
-        lines = reply.decode("ascii").split("\n")
-        kind = lines[0] if lines[0].startswith("fault") else f"{operation} right"
-        if kind == "solve right":
-            kind = f"solve {lines[1]}"
+    for request, text in cases(seed, count):
+        lines = write_case(request, text, requests, answers)
+        operation = request.split(" ")[0]
+        said = {"solve": lines[1], "decide": lines[0]}.get(operation, "right")
+        kind = lines[0] if lines[0].startswith("fault") else f"{operation} {said}"
         mix[kind] = mix.get(kind, 0) + 1
     return mix

@@ -8,6 +8,11 @@
   x x + x y + y y over 3 in its square.
 - Nesting: with a larger allowance the box lies in that of a smaller one, and a
   verdict once reached stands.
+- Steps (document 02, P7): the image of X, and what is decided of it, each asked for by
+  itself, are the step that the run makes.
+- Images: over every box that is accepted, the image has its ends in order and within
+  2^46 either way.
+- Decisions: whatever the image, the box that is left lies in X.
 - Newton: at each step the exact Newton image p - C f(p) of every fraction point
   p of X lies in K.
 - Zeros: a zero in the starting box is in the box handed back; none is not said.
@@ -23,9 +28,11 @@ from collections import Counter
 from fractions import Fraction
 
 import arithmetic
-from arithmetic import MARK
+from arithmetic import MARK, MAX_END, MAX_IMAGE, ends_of
 from dice import Dice
 from jobs import random_job, symmetric_job
+from step_cases import against
+from steps import decision, image_of
 from texts import read_job, job_text
 from zeros import job_with_zeros
 
@@ -119,6 +126,40 @@ def try_powers(dice, job, X, tried):
             tried[f"powers: quotients of exponent {e}"] += 1
 
 
+def any_box(dice, n):
+    """A box that is accepted, as wide as it may be in some coordinates."""
+    def end():
+        return dice.pick([-MAX_END, MAX_END, dice.around(MAX_END), dice.around(MARK)])
+    return [tuple(sorted((end(), end()))) for _ in range(n)]
+
+
+def try_image(job, X, tried):
+    """The image of a job and a box, asked for by itself."""
+    K = image_of(job, *ends_of(X))
+    fits = all(-MAX_IMAGE <= a <= b <= MAX_IMAGE for a, b in K)
+    claim(fits, "image in its range", job, X, K)
+    tried["images: in their range"] += 1
+    return K
+
+
+def try_decision(job, X, K, tried):
+    """What is decided of a box and an image, asked for by itself."""
+    verdict, box = decision(job.n, *ends_of(X), *ends_of(K))
+    claim(all(inside(ends, X) for ends in ends_of(box)), "box left in X", job, X, K)
+    tried[f"decisions: a box left in X, {verdict}"] += 1
+    return verdict, box
+
+
+def try_step(dice, job, step, tried):
+    """A step of the run by the two operations of P7, and another image of its box."""
+    X, K, verdict, box = step
+    claim(try_image(job, X, tried) == K, "image of a step", job, X, K)
+    decided = try_decision(job, X, K, tried)
+    claim(decided == (verdict or "next", box), "decision of a step", job, X, K)
+    tried["steps: as in the run"] += 1
+    try_decision(job, X, against(dice, X), tried)
+
+
 def distance(p, q, widths):
     """The greatest |p - q| over the widths."""
     return max(abs(v - w) / width for v, w, width in zip(p, q, widths))
@@ -150,8 +191,12 @@ def try_job(dice, job, zeros, tried):
         claim(values_at(equations, p) == formulas(job, p), "kinds", job, p)
         tried["kinds: points of linear and eigen jobs"] += 1
     try_nesting(job, tried)
-    for number, (X, K, verdict, box) in enumerate(arithmetic.trace(job)):
+    X = any_box(dice, job.n)
+    try_decision(job, X, try_image(job, X, tried), tried)
+    for number, step in enumerate(arithmetic.trace(job)):
+        X, K, verdict, _ = step
         if number < 12:
+            try_step(dice, job, step, tried)
             try_powers(dice, job, X, tried)
             for _ in range(4):
                 p = fraction_point(dice, X)

@@ -11,7 +11,7 @@ from functools import lru_cache
 from itertools import product as every
 
 from arithmetic import (Job, KINDS, MARK, MAX_N, MAX_STEPS, MAX_JOB, MAX_END,
-                        MAX_ENTRY, MAX_TERMS, MAX_DEGREE, equation_over,
+                        MAX_ENTRY, MAX_TERMS, MAX_DEGREE, ends_of, equation_over,
                         equations_of, middle, slope, unit)
 
 
@@ -242,9 +242,20 @@ def random_job(dice, kind=None, n=None):
     if not dice.one_in(6):
         lines = settle(kind, n, lines, z)
     box = box_around(dice, z)
-    job = Job(job_number(dice), kind, n, [low for low, _ in box],
-              [high for _, high in box], [], allowance(dice), lines)
+    job = Job(job_number(dice), kind, n, *ends_of(box), [], allowance(dice), lines)
     return job._replace(inv=choose_inverse(dice, equations_of(job), box))
+
+
+def largest_job(kind):
+    """A job with every number as long as it may be."""
+    full = [-MAX_ENTRY] * (MAX_N * MAX_N)
+    width = MAX_N + 1 if kind == "linear" else MAX_N
+    if kind == "poly":
+        line = [(-MAX_ENTRY, e) for e in monomials(MAX_N)[:MAX_TERMS]]
+    else:
+        line = [-MAX_ENTRY] * width
+    return Job(MAX_JOB, kind, MAX_N, [-MAX_END] * MAX_N, [-MAX_END] * MAX_N, full,
+               MAX_STEPS, [line] * MAX_N)
 
 
 def symmetric_job(dice):
@@ -255,6 +266,6 @@ def symmetric_job(dice):
     z = [dice.between(low, high) * eighths // 8 for low, high in box]
     lines = settle("poly", n, symmetric_lines(dice, n), z)
     wide = not dice.one_in(4) and wide_inverse(lines, box)
-    return Job(job_number(dice), "poly", n, [low for low, _ in box],
-               [high for _, high in box], wide or choose_inverse(dice, lines, box),
+    return Job(job_number(dice), "poly", n, *ends_of(box),
+               wide or choose_inverse(dice, lines, box),
                dice.pick([allowance(dice), 60]), lines)

@@ -3,6 +3,8 @@
     second.py solve [FILE]     the result text of a job text
     second.py job [FILE]       reads a job text and writes it again
     second.py result [FILE]    reads a result text and writes it again
+    second.py image [FILE]     the image of a job's own box
+    second.py step [FILE]      the image, and what is decided of it
     second.py batch [FILE]     many requests in one run
     second.py cases --seed S --count K --requests R --answers A
 
@@ -11,24 +13,28 @@ Without FILE, standard input is read.  A fault is answered by the two lines
 """
 
 import argparse
+import re
 import sys
 
-from arithmetic import MAX_TEXT
+from answers import answer
+from arithmetic import MAX_N, MAX_TEXT
 from cases import write_cases
-from texts import answer
 
-OPERATIONS = ("solve", "job", "result")
+COMMANDS = ("solve", "job", "result", "image", "step")
 HEADER = 4_096                 # bytes of a request's line, its line feed among them
 CHUNK = 65_536
 
-EXPECTED_HEADER = "a line of solve, job or result, one space and a length in digits"
+# A number in a request: an optional minus, 1 to 18 digits, no leading zero, no minus
+# zero.  A list has 1 to 4 of them, whatever n is.  N and LENGTH have any count of digits.
+NUMBER = "(?:0|-?[1-9][0-9]{0,17})"
+LIST = f"{NUMBER}(?:,{NUMBER}){{0,{MAX_N - 1}}}"
+COUNT = "(?:0|[1-9][0-9]*)"
+LINE = re.compile(f"(?:(?:solve|job|result|image(?: {LIST} {LIST})?) {COUNT}"
+                  f"|decide {COUNT}(?: {LIST}){{4}} 0)\n")
+
+EXPECTED_LINE = ("a line of solve, job, result, image, image LO HI or decide N LO HI KLO KHI, "
+                 "and a length in digits (decide: 0), one space between words")
 EXPECTED_TEXT = "as many bytes of text as the length says"
-
-
-def length_of(digits):
-    """A length in decimal without a leading zero, or None."""
-    well = digits.isdigit() and digits.isascii() and (digits == "0" or digits[0] != "0")
-    return int(digits) if well else None
 
 
 def take(source, length):
@@ -45,23 +51,22 @@ def take(source, length):
 
 
 def batch(source, sink):
-    """A request is a line `OP LENGTH` and LF, then LENGTH bytes; its answer is a
-    line with the answer's length and LF, then the answer's bytes.  Broken framing
+    """A request is a line `OP ARGS.. LENGTH` and LF, then LENGTH bytes; its answer is
+    a line with the answer's length and LF, then the answer's bytes.  Broken framing
     ends the run with a line `error=` and what was expected."""
     while True:
-        header = source.readline(HEADER)
+        header = source.readline(HEADER).decode("latin-1")
         if not header:
             return
-        operation, space, digits = header[:-1].decode("latin-1").partition(" ")
-        length = length_of(digits)
-        if header[-1:] != b"\n" or operation not in OPERATIONS or length is None:
-            sink.write(f"error=expected {EXPECTED_HEADER}\n".encode())
+        if not LINE.fullmatch(header):
+            sink.write(f"error=expected {EXPECTED_LINE}\n".encode())
             return
-        text = take(source, length)
+        request, _, length = header[:-1].rpartition(" ")
+        text = take(source, int(length))
         if text is None:
             sink.write(f"error=expected {EXPECTED_TEXT}\n".encode())
             return
-        reply = answer(operation, text)
+        reply = answer(request, text)
         sink.write(b"%d\n" % len(reply) + reply)
 
 
@@ -69,7 +74,7 @@ def main(arguments=None):
     """The command line."""
     parser = argparse.ArgumentParser(description=__doc__.split("\n", maxsplit=1)[0])
     commands = parser.add_subparsers(dest="command", required=True)
-    for name in (*OPERATIONS, "batch"):
+    for name in (*COMMANDS, "batch"):
         commands.add_parser(name).add_argument("file", nargs="?", metavar="FILE")
     making = commands.add_parser("cases")
     making.add_argument("--seed", type=int, required=True)

@@ -3,9 +3,11 @@
 import unittest
 
 import arithmetic
+from answers import answer
 from arithmetic import MAX_N, MAX_TEXT, Result, equation_over, equations_of
-from cases import CUBE, EXAMPLES, JOB_41, T7, T9, T11, T12, largest_job
-from texts import Fault, answer, job_text, read_job, read_result, result_text
+from cases import CUBE, EXAMPLES, JOB_41, T7, T9, T11, T12
+from jobs import largest_job
+from texts import Fault, job_text, read_job, read_result, result_text
 from texts import solve, write_job, write_result
 
 TEXT_41 = b"""job=41

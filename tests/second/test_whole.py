@@ -6,6 +6,7 @@ from unittest.mock import patch
 
 import arithmetic
 import texts
+from answers import answer
 from arithmetic import MARK, MAX_N, MAX_TEXT
 from cases import cases, write_cases
 from claims import Breach, try_claims
@@ -13,7 +14,6 @@ from dice import Dice
 from jobs import symmetric_job
 from second import batch
 from test_second import RESULT_41, TEXT_41, marked_examples, power_examples
-from texts import answer
 
 
 def run_batch(requests):
@@ -58,11 +58,14 @@ class Cases(unittest.TestCase):
 
     def test_every_answer_is_met(self):
         met, lengths = set(), set()
-        for operation, text in cases(1, 3_000):
-            reply = answer(operation, text).decode("ascii").split("\n")
-            name = "result" if operation == "result" else "job"
+        for request, text in cases(1, 3_400):
+            reply = answer(request, text).decode("ascii").split("\n")
+            operation = request.split(" ")[0]
+            name = "job" if operation == "solve" else operation
             met.add((name, reply[0], reply[1]))
             lengths.add(len(text))
+            if operation == "decide":
+                met.add((name, reply[0]))
             if operation == "solve" and reply[0].startswith("job="):
                 met.add((text.split(b"\n")[1].decode(), reply[1]))
         wanted = {("job", 2, line) for line in range(1, MAX_N + 9)}
@@ -73,8 +76,12 @@ class Cases(unittest.TestCase):
         wanted |= {("result", 2, line) for line in range(1, 7)}
         wanted |= {("result", 4, line) for line in (1, 4, 5)}
         wanted |= {("result", 1, 0), ("result", 3, 4), ("result", 5, 5), ("result", 8, 3)}
+        wanted |= {("image", 4, 0), ("image", 5, 0), ("image", 4, 4), ("image", 5, 5)}
+        wanted |= {("decide", fault, 0) for fault in (3, 4, 5)}
         for name, fault, line in wanted:
             self.assertIn((name, f"fault={fault}", f"line={line}"), met)
+        for verdict in ("none", "unique", "stalled", "next"):
+            self.assertIn(("decide", f"verdict={verdict}"), met)
         for kind in arithmetic.KINDS:
             for verdict in arithmetic.VERDICTS:
                 self.assertIn((f"kind={kind}", f"verdict={verdict}"), met)
@@ -223,7 +230,17 @@ def caught_by_cases():
     return any(answer(*case) != right for case, right in zip(ASKED, ANSWERED))
 
 
-class Claims(unittest.TestCase):
+class Slips(unittest.TestCase):
+    """A slip put in."""
+
+    def slip(self, name, instead, *catchers, module=arithmetic):
+        """A slip is seen by each of the catchers."""
+        with patch.object(module, name, instead):
+            for catcher in catchers:
+                self.assertTrue(catcher(), (name, instead, catcher))
+
+
+class Claims(Slips):
     """What must hold of every job; and that slips are seen."""
 
     def test_no_breach(self):
@@ -232,16 +249,12 @@ class Claims(unittest.TestCase):
                      "powers: members to the power 3", "powers: quotients of exponent 3",
                      "zeros: kept by a run that is unique",
                      "zeros: kept by a run that is stalled",
-                     "zeros: starting boxes with two or more"):
+                     "zeros: starting boxes with two or more",
+                     "steps: as in the run", "images: in their range",
+                     "decisions: a box left in X, unique"):
             self.assertGreater(tried[name], 0)
         self.assertFalse(caught_by_examples())
         self.assertFalse(caught_by_cases())
-
-    def slip(self, name, instead, *catchers, module=arithmetic):
-        """A slip is seen by each of the catchers."""
-        with patch.object(module, name, instead):
-            for catcher in catchers:
-                self.assertTrue(catcher(), (name, instead, catcher))
 
     def test_slips_of_the_run(self):
         everywhere = caught_by_examples, caught_by_claims, caught_by_cases

@@ -20,15 +20,16 @@ A_TERM = re.compile(f"({NUMBER}):([0-9]+)")
 
 
 class Fault(Exception):
-    """A fault's number and its line counted from 1, or 0."""
+    """A fault's number and its line counted from 1; 0 for "any later fault that no text
+    line carries"."""
 
-    def __init__(self, number, line=None):
+    def __init__(self, number, line=0):
         super().__init__(number, line)
         self.number, self.line = number, line
 
 
 def demand(holds, number):
-    """The fault of the line being walked, unless the demand holds."""
+    """The fault, unless the demand holds; a walk adds its line."""
     if not holds:
         raise Fault(number)
 
@@ -77,8 +78,7 @@ class FromText:
     """"Lines end in one LF, the last too." """
 
     def __init__(self, text):
-        if len(text) > MAX_TEXT:
-            raise Fault(1, 0)                       # "Fault 1 comes first."
+        demand(len(text) <= MAX_TEXT, 1)            # "Fault 1 comes first."
         *self.lines, self.rest = text.decode("latin-1").split("\n")
         self.line = 0
 
@@ -244,8 +244,7 @@ def write_into(buffer, text):
     """Lays a text into a lent bytearray and returns its length.  Fault 7: "the
     written text is longer than the lent buffer"; nothing is written then.  "The
     lent buffer's bytes beyond it are the old ones." """
-    if len(text) > len(buffer):
-        raise Fault(7, 0)
+    demand(len(text) <= len(buffer), 7)
     buffer[:len(text)] = text
     return len(text)
 
@@ -264,16 +263,3 @@ def solve(job):
     """The run as an entry: values are checked first and may be a Fault."""
     walked(walk_job, FromValues(job))
     return run(job)
-
-
-def answer(operation, text):
-    """What the product answers to a text: the result text (solve), the same text
-    again (job, result), or the two lines `fault=N` and `line=L`."""
-    try:
-        if operation == "solve":
-            return result_text(solve(read_job(text)))
-        if operation == "job":
-            return job_text(read_job(text))
-        return result_text(read_result(text))
-    except Fault as fault:
-        return f"fault={fault.number}\nline={fault.line}\n".encode("ascii")

@@ -7,8 +7,8 @@ whole number of marks.
 from fractions import Fraction
 from itertools import product as every
 
-from arithmetic import (Job, MARK, MAX_END, MAX_ENTRY, MAX_N, MAX_TERMS, equations_of,
-                        unit)
+from arithmetic import (Job, MARK, MAX_END, MAX_ENTRY, MAX_N, MAX_TERMS, ends_of,
+                        equations_of, unit)
 from jobs import allowance, choose_inverse, clip, interval, job_number
 
 
@@ -101,6 +101,5 @@ def job_with_zeros(dice):
                         clip(high + dice.below(radius), MAX_END)))
         else:
             box.append(interval(dice, placing, dice.pick(zeros)[j].__floor__(), radius))
-    job = Job(job_number(dice), kind, n, [low for low, _ in box],
-              [high for _, high in box], [], allowance(dice), lines)
+    job = Job(job_number(dice), kind, n, *ends_of(box), [], allowance(dice), lines)
     return job._replace(inv=choose_inverse(dice, equations_of(job), box)), zeros

@@ -12,7 +12,7 @@ use Rattle.digits.specs.declared.Magnitude.{Magnitude}
 use Rattle.digits.specs.declared.Number.{Number}
 use Rattle.digits.specs.Bytes.{digit0, digit9, minusSign}
 use Rattle.digits.specs.Number.{digitsMax, digitsFrom, readMagnitude, withMinus, withoutMinus, readNumber}
-use Rattle.digits.specs.Show.{showMagnitude, showNumber}
+use Rattle.digits.specs.Show.{showMagnitude, showSigned, showNumber}
 use Rattle.digits.proofs.Cases.{either}
 use Rattle.digits.proofs.Show.{show-low, show-high, show-long, show-short, tenth-below}
 
@@ -84,7 +84,7 @@ magnitude-back m h =
     (digits-back 8 m h))
 
 pub number-back : (v : ℤ) → natAbs v < 10 ^ digitsMax → readNumber (showNumber v) ≡ Number.Is v
-unfolding readNumber showNumber withoutMinus withMinus
+unfolding readNumber showSigned withoutMinus withMinus
 number-back (pos m) h =
     let t = showMagnitude digitsMax m in
     let f = first 8 m h in

@@ -9,8 +9,7 @@ use lib.Dec.{lit<}
 use lib.IntN.{ℤ, pos, negsuc}
 use borrow.Author.Tests.{lt-ltb, le-ltb}
 use Rattle.digits.specs.Bytes.{digit0}
-use Rattle.digits.specs.Number.{digitsMax}
-use Rattle.digits.specs.Show.{showMagnitude, showNumber}
+use Rattle.digits.specs.Show.{showMagnitude, showSigned}
 use Rattle.digits.proofs.Cases.{either}
 
 pub show-low : (k m : ℕ) → m < 10 → showMagnitude (suc k) m ≡ (digit0 + m) ∷ []
@@ -36,11 +35,11 @@ show-short (suc k) m =
     (λ p. rw (lt-ltb m 10 p) (omega arith))
     (λ p. rw (le-ltb m 10 p, length-append) (omega arith))
 
--- a minus and nine digits
-pub number-short : (v : ℤ) → length (showNumber v) ≤ digitsMax + 1
-unfolding showNumber
-number-short (pos m) = omega (arith, show-short digitsMax m)
-number-short (negsuc m) = omega (arith, show-short digitsMax (suc m))
+-- a minus and k digits
+pub number-short : (k : ℕ) (v : ℤ) → length (showSigned k v) ≤ k + 1
+unfolding showSigned
+number-short k (pos m) = omega (arith, show-short k m)
+number-short k (negsuc m) = omega (arith, show-short k (suc m))
 
 pub show-none : (k m : ℕ) → k ≡ 0 → showMagnitude k m ≡ []
 unfolding showMagnitude

@@ -11,7 +11,7 @@ use Rattle.digits.specs.declared.Magnitude.{Magnitude}
 use Rattle.digits.specs.declared.Number.{Number}
 use Rattle.digits.specs.Bytes.{digit0, digit9, minusSign}
 use Rattle.digits.specs.Number.{digitsMax, digitsFrom, readMagnitude, withMinus, withoutMinus, readNumber}
-use Rattle.digits.specs.Show.{showMagnitude, showNumber}
+use Rattle.digits.specs.Show.{showMagnitude, showSigned, showNumber}
 use Rattle.digits.proofs.Cases.{either, same-or}
 use Rattle.digits.proofs.Show.{show-low, show-high}
 
@@ -88,7 +88,7 @@ number-inj a b e = cc
 
 minus-was : (bs : List ℕ) (v : ℤ) (x : Magnitude)
     → readMagnitude bs ≡ x → withMinus x ≡ Number.Is v → showNumber v ≡ minusSign ∷ bs
-unfolding withMinus showNumber
+unfolding withMinus showSigned
 minus-was bs v Magnitude.Bad e f = none-is v f
 minus-was bs v (Magnitude.Is zero) e f = none-is v f
 minus-was bs v (Magnitude.Is (suc m)) e f =
@@ -97,7 +97,7 @@ minus-was bs v (Magnitude.Is (suc m)) e f =
 
 plain-was : (bs : List ℕ) (v : ℤ) (x : Magnitude)
     → readMagnitude bs ≡ x → withoutMinus x ≡ Number.Is v → showNumber v ≡ bs
-unfolding withoutMinus showNumber
+unfolding withoutMinus showSigned
 plain-was bs v Magnitude.Bad e f = none-is v f
 plain-was bs v (Magnitude.Is m) e f = rw (← number-inj (pos m) v f) (magnitude-was bs m e)
 

@@ -12,6 +12,10 @@ use Rattle.digits.specs.declared.Number.{Number}
 abbrev pub digitsMax : ℕ
 digitsMax = 9
 
+-- the widest number that an i64 surely holds
+abbrev pub longMax : ℕ
+longMax = 18
+
 -- the number that digits spell after v; none where a byte is no digit
 unfoldable pub digitsFrom : ℕ → List ℕ → Magnitude
 digitsFrom v [] = Magnitude.Is v

@@ -12,7 +12,11 @@ unfoldable pub showMagnitude : ℕ → ℕ → List ℕ
 showMagnitude zero m = []
 showMagnitude (suc k) m = cond (ltb m 10) ((digit0 + m) ∷ []) (showMagnitude k (m / 10) ++ ((digit0 + m % 10) ∷ []))
 
--- the digits of a number of at most nine, after a minus where it is below 0
-unfoldable pub showNumber : ℤ → List ℕ
-showNumber (pos m) = showMagnitude digitsMax m
-showNumber (negsuc m) = minusSign ∷ showMagnitude digitsMax (suc m)
+-- the digits of a number, of which there are at most k, after a minus where it is below 0
+unfoldable pub showSigned : ℕ → ℤ → List ℕ
+showSigned k (pos m) = showMagnitude k m
+showSigned k (negsuc m) = minusSign ∷ showMagnitude k (suc m)
+
+-- "1 to 9 digits": a number of a text that is read
+abbrev pub showNumber : ℤ → List ℕ
+showNumber = showSigned digitsMax

@@ -3,11 +3,13 @@
 ghost use mathlib.Core.Path.{_≡_};
 ghost use Prim.Native.Nat.{_-_, _<_, _^_};
 ghost use lib.IntN.{natAbs};
-ghost use Rattle.digits.specs.Number.{digitsMax};
 ghost use Rattle.digits.specs.Bytes.{digit0};
 ghost use Rattle.digits.specs.Digits.{isDigit, allDigits};
+ghost use Rattle.digits.specs.Number.{longMax};
 
 pub const DIGITS: usize = 9;
+// So many digits always fit a number of 64 bits.
+pub const LONG: usize = 18;
 
 // A number with no sign, or none.
 pub enum Magnitude {
@@ -52,9 +54,9 @@ pub fn digit(b: u8) -> u8
     b - b'0'
 }
 
-// The digits' part of a number that a text can hold.
+// The digits' part of a number of at most LONG digits.
 pub fn abs(v: i64) -> u64
-    requires { ⌜ natAbs v < 10 ^ digitsMax ⌝ }
+    requires { ⌜ natAbs v < 10 ^ longMax ⌝ }
     ensures { λ r. ⌜ r ≡ natAbs v ⌝ }
 {
     if v < 0 {

@@ -9,10 +9,12 @@ use lib.ListN.{length, drop}
 use Rattle.sizes.specs.Sizes.{textMax}
 use Rattle.jobs.specs.Checks.{checkJob}
 use Rattle.jobs.specs.CheckResult.{checkResult}
+use Rattle.jobs.specs.declared.Ends.{Ends}
 use Rattle.jobs.specs.declared.Job.{Job}
 use Rattle.jobs.specs.declared.Result.{Result}
 use Rattle.faults.specs.Answer.{Leaves}
 use Rattle.faults.specs.declared.Written.{Written}
+use Rattle.one_step.specs.OneStep.{givesImage, givesMove}
 use Rattle.run.specs.Job.{runJob}
 use Rattle.job_form.specs.JobForm.{readJob}
 use Rattle.job_form.specs.JobBytes.{jobBytes}
@@ -20,6 +22,7 @@ use Rattle.result_form.specs.ResultForm.{readResult}
 use Rattle.result_form.specs.ResultShows.{showResult}
 use Rattle.desk.specs.Desk.{jobStatus, jobText, resultStatus, resultText, solveStatus, solveText}
 use Rattle.entries.specs.Numbers.{told, tell, orElse, shortBuffer, firstGiven, jobRows, resultRows}
+use Rattle.entries.specs.Numbers.{imageRows, decideRows}
 use Rattle.entries.proofs.Answered.{job-status, result-status, solve-status}
 use Rattle.slips.specs.Slips.{foundIn}
 use Rattle.sentences.specs.Says.{sentenceMax}
@@ -61,6 +64,15 @@ read-result-line = texts.result-line
 -- given, 0 and 0 where none is
 pub run : (j : Job) → told (runJob j .status) ≡ firstGiven (jobRows j)
 run j = ap told (faults.run-status j) ∙ faults.job-first j
+
+-- ---- one_step::image, one_step::decide
+-- P7: "A box handed in is checked like a job's lo and hi, but with line 0", after the job's own
+pub image : (j : Job) (x : Ends) → told (givesImage j x .status) ≡ firstGiven (imageRows j x)
+image = faults.image-first
+
+-- P7: "3 for that n, first; 4 beyond the image's range, then 5 for its ends crossed, after .. the box's own"
+pub decide : (n : ℕ) (x k : Ends) → told (givesMove n x k .status) ≡ firstGiven (decideRows n x k)
+decide = faults.decide-first
 
 -- ---- job_write::write_job, result_write::write_result: any answer a that the contract allows, for the values' text
 -- and a buffer with the bytes old

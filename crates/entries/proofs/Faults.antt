@@ -18,11 +18,15 @@ use Rattle.jobs.specs.declared.Result.{Result}
 use Rattle.faults.specs.declared.Status.{Status}
 use Rattle.faults.specs.Answer.{refused, answerOf, Leaves}
 use Rattle.faults.specs.declared.Written.{Written}
-use Rattle.run.proofs.Decisions.{zero-one}
+use Rattle.step.proofs.Decisions.{zero-one}
 use Rattle.run.specs.Job.{answerBy, runJob}
 use Rattle.entries.specs.Numbers.{Told, told, tell, orElse, shortBuffer, Row, firstGiven, eachLine, systemRows}
 use Rattle.entries.specs.Numbers.{jobRows, resultRows}
-use Rattle.entries.proofs.Rows.{Tells, before, job-tells, result-tells}
+use Rattle.one_step.specs.OneStep.{givesImage, givesMove}
+use Rattle.one_step.proofs.Given.{image-status, decide-status}
+use Rattle.jobs.specs.declared.Ends.{Ends}
+use Rattle.entries.specs.Numbers.{imageRows, decideRows}
+use Rattle.entries.proofs.Rows.{Tells, before, job-tells, result-tells, image-tells, decide-tells}
 
 -- ---- values
 before-none : (st : Status) → before st (tell 0 0) ≡ told st
@@ -37,6 +41,12 @@ job-first j = first-told (job-tells j)
 
 pub result-first : (r : Result) → told (checkResult r) ≡ firstGiven (resultRows r)
 result-first r = first-told (result-tells r)
+
+pub image-first : (j : Job) (x : Ends) → told (givesImage j x .status) ≡ firstGiven (imageRows j x)
+image-first j x = ap told (image-status j x) ∙ first-told (image-tells j x)
+
+pub decide-first : (n : ℕ) (x k : Ends) → told (givesMove n x k .status) ≡ firstGiven (decideRows n x k)
+decide-first n x k = ap told (decide-status n x k) ∙ first-told (decide-tells n x k)
 
 -- no row has the number 7
 abbrev without : List Row → Bool

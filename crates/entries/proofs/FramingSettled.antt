@@ -25,9 +25,9 @@ pub look-settled : (κs : Lfts 1) (a : Dens κs look-kinds.ps) (r r' : resT look
     (s s' : AtExit (endedOf 1 look-kinds.ps look-kinds.r) κs) → look.Post κs a r s → look.Post κs a r' s' → r ≡ r'
 look-settled κs a r r' s s' p q = p .same ∙ sym (q .same)
 
-pub reply-settled : (κs : Lfts 2) (a : Dens κs reply-kinds.ps) (r r' : resT reply-kinds.r κs .Denot)
-    (s s' : AtExit (endedOf 2 reply-kinds.ps reply-kinds.r) κs)
-    → reply.Post κs a r s → reply.Post κs a r' s' → (r ≡ r') × (now (s .1 .1 .0) ≡ now (s' .1 .1 .0))
+pub reply-settled : (κs : Lfts 3) (a : Dens κs reply-kinds.ps) (r r' : resT reply-kinds.r κs .Denot)
+    (s s' : AtExit (endedOf 3 reply-kinds.ps reply-kinds.r) κs)
+    → reply.Post κs a r s → reply.Post κs a r' s' → (r ≡ r') × (now (s .1 .1 .1 .0) ≡ now (s' .1 .1 .1 .0))
 reply-settled κs a r r' s s' p q = settled p q
 
 pub tell-settled : (κs : Lfts 1) (a : Dens κs tell-kinds.ps) (r r' : resT tell-kinds.r κs .Denot)

@@ -12,3 +12,4 @@ pub mod DeskSettled
 pub mod ForCSettled
 pub mod FramingSettled
 pub mod UnitsSettled
+pub mod StepSettled

@@ -5,8 +5,9 @@ use mathlib.Core.List.{List, [], _∷_, _++_, append-assoc}
 use Prim.Native.Nat.{ℕ, zero, suc, _+_, _≤_}
 use native.Mathlib.Omega.{arith}
 use lib.Dec.{eqb, leb, ltb}
+use lib.IntN.{ℤ, pos}
 use borrow.Author.Tests.{ltb-true, ltb-false, eqb-true, eqb-false, le-leb, lt-leb}
-use Rattle.sizes.specs.Sizes.{nMax, stepsMax, numberMax}
+use Rattle.sizes.specs.Sizes.{nMax, stepsMax, numberMax, endMax, imageMax}
 use Rattle.faults.specs.Words.{faultNumber}
 use Rattle.faults.specs.Checks.{badUnless, onLine, andThen, linesOf}
 use Rattle.faults.proofs.Laws.{line-first, fine-skips, then-assoc}
@@ -15,11 +16,14 @@ use Rattle.jobs.specs.Checks.{equationCheck, rowCheck, sidedCheck, systemCheck,
 use Rattle.jobs.specs.Checks.{jobLineStatus, systemLines, headLines, bodyLines, checkJob}
 use Rattle.jobs.specs.CheckResult.{countCheck, countedCheck, resultCheck, resultLineStatus, checkResult}
 use Rattle.faults.specs.declared.Fault.{Fault}
+use Rattle.one_step.specs.OneStep.{endsCheck, imageStatus, decideCheck, decideStatus}
 use Rattle.jobs.specs.declared.Kind.{Kind}
+use Rattle.jobs.specs.declared.Ends.{Ends}
 use Rattle.jobs.specs.declared.Job.{Job}
 use Rattle.jobs.specs.declared.Result.{Result}
 use Rattle.faults.specs.declared.Status.{Status}
 use Rattle.entries.specs.Numbers.{Told, told, Row, firstGiven, eachLine, systemRows, jobRows, resultRows}
+use Rattle.entries.specs.Numbers.{endsRows, imageRows, decideRows}
 
 -- what a status tells before the rest
 abbrev pub before : Status → Told → Told
@@ -107,3 +111,20 @@ result-tells r =
     (tell-row _ Fault.Beyond 1 (tell-row _ Fault.Steps 3
     (tell-row _ Fault.Spelling 4 (tell-row _ Fault.Unknowns 4 (tell-row _ Fault.Beyond 4
     (tell-row _ Fault.Beyond 5 (tell-one _ Fault.Crossed 5))))))))
+
+-- ---- a box and an image handed in
+ends-tells : (n : ℕ) (most : ℤ) (e : Ends) → Tells (endsRows n most e) (onLine (endsCheck n most e) 0)
+unfolding endsCheck
+ends-tells n most e =
+    rw (line-first, line-first)
+    (tell-row _ Fault.Beyond 0 (tell-row _ Fault.Beyond 0 (tell-one _ Fault.Crossed 0)))
+
+pub image-tells : (j : Job) (x : Ends) → Tells (imageRows j x) (imageStatus j x)
+unfolding imageStatus
+image-tells j x = tell-both (job-tells j) (ends-tells (j .head .n) (pos endMax) x)
+
+pub decide-tells : (n : ℕ) (x k : Ends) → Tells (decideRows n x k) (decideStatus n x k)
+unfolding decideCheck unknownsCheck
+decide-tells n x k =
+    rw (line-first, line-first)
+    (tell-row _ Fault.Unknowns 0 (tell-both (ends-tells n (pos endMax) x) (ends-tells n (pos imageMax) k)))

@@ -5,15 +5,16 @@ use Prim.Native.Nat.{ℕ, zero, suc, _+_}
 use mathlib.Core.Bool.{Bool, cond, not}
 use mathlib.Core.List.{List, [], _∷_, _++_}
 use lib.Dec.{eqb, ltb, leb}
-use lib.IntN.{pos}
+use lib.IntN.{ℤ, pos}
 use lib.ListN.{length, getD}
-use Rattle.sizes.specs.Sizes.{nMax, stepsMax, numberMax, entryMax}
+use Rattle.sizes.specs.Sizes.{nMax, stepsMax, numberMax, endMax, entryMax, imageMax}
 use Rattle.jobs.specs.Places.{equationAt, rowAt}
-use Rattle.jobs.specs.Ranges.{isWithin, allOrdered}
+use Rattle.jobs.specs.Ranges.{isWithin, allWithin, allOrdered}
 use Rattle.jobs.specs.Terms.{goodCoefs, goodTerms}
 use Rattle.jobs.specs.Checks.{goodUnknowns, goodEnds, goodEntries, goodMatrix}
 use Rattle.faults.specs.Words.{numberOf, lineOf}
 use Rattle.jobs.specs.declared.Kind.{Kind}
+use Rattle.jobs.specs.declared.Ends.{Ends}
 use Rattle.jobs.specs.declared.Job.{Job}
 use Rattle.jobs.specs.declared.Result.{Result}
 use Rattle.faults.specs.declared.Status.{Status}
@@ -92,3 +93,21 @@ resultRows r =
     ∷ row 5 4 (not (goodEnds (r .hi) (r .n)))
     ∷ row 5 5 (not (allOrdered (r .lo) (r .hi) (r .n)))
     ∷ []
+
+-- ---- P7: a box and an image handed in, all with line 0
+-- "checked like a job's lo and hi": every end from -most to most, then a low end above its high end
+abbrev pub endsRows : ℕ → ℤ → Ends → List Row
+endsRows n most e =
+    row 0 4 (not (allWithin (e .lo) n most))
+    ∷ row 0 4 (not (allWithin (e .hi) n most))
+    ∷ row 0 5 (not (allOrdered (e .lo) (e .hi) n))
+    ∷ []
+
+-- the job's own, then the box's
+abbrev pub imageRows : Job → Ends → List Row
+imageRows j x = jobRows j ++ endsRows (j .head .n) (pos endMax) x
+
+-- "3 for that n, first; 4 beyond the image's range, then 5 for its ends crossed, after .. the box's own"
+abbrev pub decideRows : ℕ → Ends → Ends → List Row
+decideRows n x k =
+    row 0 3 (not (goodUnknowns n)) ∷ (endsRows n (pos endMax) x ++ endsRows n (pos imageMax) k)

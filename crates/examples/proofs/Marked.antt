@@ -17,10 +17,11 @@ use Rattle.jobs.specs.Checks.{jobLineStatus, systemLines, headLines, bodyLines,
 use Rattle.systems.specs.Terms.{factorI, termOver, equationOver, lowered, termSlope, slopeOver}
 use Rattle.systems.specs.Fractions.{power, termNum, equationNum}
 use Rattle.systems.specs.Kinds.{unitE, vectorE, linearEquation, eigenEquation, equationOf}
-use Rattle.run.specs.Step.{imageOf}
-use Rattle.run.specs.Decide.{allMeet, allInside, cutSame, cutBox, decideOf}
-use Rattle.run.specs.Run.{imageBox, stepOf, runOf}
-use Rattle.run.specs.Job.{startOf, outcomeOf, resultOf, runJob}
+use Rattle.step.specs.Step.{imageOf, imageBox}
+use Rattle.step.specs.Decide.{allMeet, allInside, cutSame, cutBox, decideOf, stepOf}
+use Rattle.step.specs.Values.{boxOf}
+use Rattle.run.specs.Run.{runOf}
+use Rattle.run.specs.Job.{outcomeOf, resultOf, runJob}
 use Rattle.examples.specs.Table.{table, requests, Holds}
 
 pub marked-examples : Holds table × Holds requests
@@ -30,7 +31,7 @@ unfolding floorBy ceilBy minℤ maxℤ sumTo tab carry allB addI negI sumI scale
     goodUnknowns goodMatrix numberCheck unknownsCheck lowCheck highCheck inverseCheck stepsCheck equationCheck
     rowCheck sidedCheck systemCheck lineCheck jobLineStatus systemLines headLines bodyLines checkJob factorI
     termOver equationOver lowered termSlope slopeOver power termNum degree equationNum unitE vectorE linearEquation
-    eigenEquation equationOf imageOf allMeet allInside cutSame cutBox decideOf imageBox stepOf runOf startOf
+    eigenEquation equationOf imageOf allMeet allInside cutSame cutBox decideOf imageBox stepOf runOf boxOf
     outcomeOf resultOf runJob
 marked-examples = (
   (refl, (refl, (refl, (refl, (refl, (refl, (refl, (refl, (refl, (refl, (refl, (refl, (refl, (refl, tt)))))))))))))),

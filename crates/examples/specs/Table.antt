@@ -11,9 +11,10 @@ use Rattle.powers.specs.Powers.{powerI}
 use Rattle.systems.specs.Terms.{equationOver}
 use Rattle.systems.specs.Fractions.{equationNum}
 use Rattle.systems.specs.Kinds.{equationOf}
-use Rattle.run.specs.Step.{imageOf}
+use Rattle.step.specs.Step.{imageOf}
+use Rattle.step.specs.Values.{inverseOf, startOf}
 use Rattle.run.specs.Run.{outcome}
-use Rattle.run.specs.Job.{inverseOf, startOf, resultOf, runJob}
+use Rattle.run.specs.Job.{resultOf, runJob}
 use Rattle.jobs.specs.declared.Job.{Job}
 use Rattle.faults.specs.declared.Status.{Status}
 use Rattle.jobs.specs.declared.Verdict.{Verdict}

@@ -78,7 +78,8 @@ fn bad_line() -> Hand
     ensures { λ r. ⌜ Nothing r ⌝ }
 {
     let whole = put(
-        b"error=expected a line of solve, job or result, one space and a length in digits\n",
+        b"error=expected a line of solve, job, result, image, image LO HI or decide N LO HI KLO KHI, \
+        and a length in digits (decide: 0), one space between words\n",
     );
     ended(written(whole, Outcome::NotRun))
 }
@@ -194,10 +195,10 @@ fn pass(fd: i32, have: &mut [u8], out: &[u8], h: Hand, passed: u64) -> Hand
     skip(fd, have, passed - here)
 }
 
-fn answer(op: Op, text: &[u8], room: &mut [u8; ROOM]) -> usize
+fn answer(op: Op, words: &[u8], text: &[u8], room: &mut [u8; ROOM]) -> usize
     ensures { λ r. ⌜ r ≤ length (now (room .exit)) ⌝ }
 {
-    let a = reply(op, text, room);
+    let a = reply(op, words, text, room);
     tell(a, room)
 }
 
@@ -223,13 +224,15 @@ fn add(out: &mut [u8], h: Hand, room: &[u8; ROOM], n: usize) -> Hand
 fn ask(fd: i32, have: &mut [u8], out: &mut [u8], h: Hand, op: Op, p: Packet) -> Hand
     requires { ⌜ InHand h (length (now have)) ⌝ }
     requires { ⌜ outMax ≤ length (now out) ⌝ }
-    requires { ⌜ (p .from ≤ p .to) × (h .at + p .to ≤ h .end) ⌝ }
+    requires { ⌜ (p .words ≤ p .from) × (p .from ≤ p .to) × (h .at + p .to ≤ h .end) ⌝ }
     ensures { λ r. ⌜ InHand r (length (now (have .entry))) ⌝ }
 {
-    let from = h.at + p.from;
-    let to = h.at + p.to;
+    let at = h.at;
+    let words = at + p.words;
+    let from = at + p.from;
+    let to = at + p.to;
     let mut room = [0u8; ROOM];
-    let n = answer(op, &have[from..to], &mut room);
+    let n = answer(op, &have[at..words], &have[from..to], &mut room);
     let next = pass(fd, have, out, going(to, h.end, h.used), p.passed);
     if next.going {
         return add(out, next, &room, n);

@@ -28,6 +28,12 @@ pub fn command_of(word: &[u8]) -> Command {
     if same_bytes(word, b"show") {
         return Command::Read(Work::One(How::Show));
     }
+    if same_bytes(word, b"image") {
+        return Command::Read(Work::One(How::Reply(Op::Image)));
+    }
+    if same_bytes(word, b"step") {
+        return Command::Read(Work::One(How::Step));
+    }
     if same_bytes(word, b"job") {
         return Command::Read(Work::One(How::Reply(Op::Job)));
     }

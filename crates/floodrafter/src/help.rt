@@ -13,6 +13,8 @@ pub fn commands(fd: i32) -> bool {
         fd,
         b"floodrafter solve [FILE]    the result of a job text, or its fault and line\n\
         floodrafter show [FILE]     the same, and each unknown's range in units\n\
+        floodrafter image [FILE]    the image K of a job's starting box, before it is used: klo=, khi=\n\
+        floodrafter step [FILE]     the same, and what it decides: verdict= none, unique, stalled or next, lo=, hi=\n\
         floodrafter job [FILE]      reads a job text and writes it again\n\
         floodrafter result [FILE]   reads a result text and writes it again\n\
         floodrafter batch [FILE]    many requests in one run: floodrafter help batch tells how\n\
@@ -30,9 +32,17 @@ fn requests(fd: i32) -> bool {
         fd,
         b"floodrafter batch [FILE] answers many requests in one run, in their order.\n\
         A request is a line and a text:\n\
-        \x20   OP LENGTH   solve, job or result, one space, how many bytes the text has, one line feed\n\
-        \x20   TEXT        so many bytes, as floodrafter OP reads them\n\
-        LENGTH is in digits with no leading zero. Bytes of a line, its line feed among them, at most: ",
+        \x20   OP LENGTH   what is asked, how many bytes the text has, one line feed\n\
+        \x20   TEXT        so many bytes\n\
+        What can be asked, with one space between words:\n\
+        \x20   solve                     the result of a job text\n\
+        \x20   job, result               the text again\n\
+        \x20   image                     K of a job text's own box\n\
+        \x20   image LO HI               K of a job text and this box\n\
+        \x20   decide N LO HI KLO KHI    what a box of N unknowns and its image decide; LENGTH is 0\n\
+        LO, HI, KLO and KHI are lists joined by commas, of numbers in marks of up to 18 digits; a missing\n\
+        place is 0. LENGTH and N are in digits with no leading zero. Bytes of a line, its line feed among\n\
+        them, at most: ",
     )
 }
 
@@ -41,7 +51,7 @@ fn answers(fd: i32) -> bool {
         fd,
         b"\nAn answer is a line and a text:\n\
         \x20   LENGTH      how many bytes the answer has, one line feed\n\
-        \x20   ANSWER      so many bytes, as floodrafter OP writes them\n\
+        \x20   ANSWER      so many bytes: the lines of what was asked, or fault= and line=\n\
         All answers to what has been read are written before more is read, so a request can wait for the\n\
         answer to the one before it.\n\
         Where a line is not right, and where the input ends within a request, one line that begins with\n\

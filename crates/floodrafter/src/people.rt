@@ -21,41 +21,46 @@ use sizes::TEXT;
 pub enum How {
     Reply(Op),
     Show,
+    Step,
 }
 
+// No command has arguments of batch.
 fn answer(how: How, text: &[u8], out: &mut [u8]) -> Written {
     match how {
-        How::Reply(op) => reply(op, text, out),
+        How::Reply(op) => reply(op, b"", text, out),
         How::Show => units::show(text, out),
+        How::Step => step_text::step(text, out),
     }
 }
 
-// A job is shown as it is solved.
-fn op_of(how: How) -> Op {
+// Every other command reads a job text.
+fn reads_result(how: How) -> bool {
     match how {
-        How::Reply(op) => op,
-        How::Show => Op::Solve,
+        How::Reply(op) => match op {
+            Op::Result => true,
+            _ => false,
+        },
+        _ => false,
     }
 }
 
-// The sentence beside the fault of a text that the operation reads.
-fn explain(op: Op, text: &[u8], out: &mut [u8]) -> usize
+// The sentence beside the fault of a text.
+fn explain(result: bool, text: &[u8], out: &mut [u8]) -> usize
     ensures { λ r. ⌜ r ≤ sentenceMax ⌝ }
 {
-    match op {
-        Op::Solve => explain_job(text, out),
-        Op::Job => explain_job(text, out),
-        Op::Result => explain_result(text, out),
+    if result {
+        return explain_result(text, out);
     }
+    explain_job(text, out)
 }
 
 // On standard error, as `job.txt:8: fault 6: ..`.
-fn tell_fault(op: Op, status: Status, name: &[u8], text: &[u8]) -> Outcome {
+fn tell_fault(result: bool, status: Status, name: &[u8], text: &[u8]) -> Outcome {
     match status {
         Status::Done => Outcome::Answered,
         Status::Refused(f, line) => {
             let mut sentence = [0u8; SENTENCE];
-            let n = explain(op, text, &mut sentence);
+            let n = explain(result, text, &mut sentence);
             say(name);
             if line > 0 {
                 say(b":");
@@ -84,7 +89,7 @@ pub fn one(how: How, fd: i32, name: &[u8]) -> Outcome {
     let status = a.status;
     let k = tell(a, &mut out);
     if put(&out[0..k]) {
-        return tell_fault(op_of(how), status, name, &buf[0..n]);
+        return tell_fault(reads_result(how), status, name, &buf[0..n]);
     }
     Outcome::Unwritten
 }

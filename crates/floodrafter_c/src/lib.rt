@@ -1,4 +1,6 @@
 // For C: a text is a pointer and a length, an answer three numbers. `include/floodrafter.h` is the other side.
+pub mod steps;
+
 ghost use mathlib.Core.Path.{_≡_};
 ghost use Rattle.job_form.specs.JobForm.{readJob};
 ghost use Rattle.result_form.specs.ResultForm.{readResult};

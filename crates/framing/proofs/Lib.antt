@@ -1,3 +1,3 @@
-pub mod Ends
 pub mod Texts
+pub mod Words
 pub mod Told

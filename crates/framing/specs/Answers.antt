@@ -13,18 +13,49 @@ use Rattle.faults.specs.declared.Status.{Status}
 use Rattle.writing.specs.Wrote.{Wrote, line}
 use Rattle.faults.specs.declared.Written.{Written}
 use Rattle.desk.specs.Desk.{solveStatus, solveText, jobStatus, jobText, resultStatus, resultText}
+use Rattle.arguments.specs.Words.{space, behind}
+use Rattle.arguments.specs.Boxes.{boxedBy, toldBy}
+use Rattle.arguments.specs.declared.boxes.Boxed.{Boxed}
+use Rattle.arguments.specs.declared.boxes.Told.{Told}
+use Rattle.one_step.specs.OneStep.{decideStatus}
+use Rattle.step_text.specs.Texts.{decideText, ownStatus, ownImage, boxStatus, boxImage}
 use Rattle.framing.specs.declared.requests.Op.{Op}
 
--- `solve` answers a job by its result, `job` and `result` write the text again
-unfoldable pub statusOf : Op → List ℕ → Status
-statusOf Op.Solve t = solveStatus t
-statusOf Op.Job t = jobStatus t
-statusOf Op.Result t = resultStatus t
+-- ---- the arguments, behind the first word
 
-unfoldable pub textOf : Op → List ℕ → List ℕ
-textOf Op.Solve t = solveText t
-textOf Op.Job t = jobText t
-textOf Op.Result t = resultText t
+-- `image LO HI`
+unfoldable pub boxAsked : List ℕ → Boxed
+boxAsked w = boxedBy (behind space w)
+
+-- `decide N LO HI KLO KHI`
+unfoldable pub toldAsked : List ℕ → Told
+toldAsked w = toldBy (behind space w)
+
+unfoldable pub toldStatus : List ℕ → Status
+toldStatus w = decideStatus (toldAsked w .n) (toldAsked w .x) (toldAsked w .k)
+
+unfoldable pub toldText : List ℕ → List ℕ
+toldText w = decideText (toldAsked w .n) (toldAsked w .x) (toldAsked w .k)
+
+-- ---- the answers to the words w and the text t
+
+-- `solve` answers a job by its result, `job` and `result` write the text again, `image` shows K, `decide` what X and K
+-- decide
+unfoldable pub statusOf : Op → List ℕ → List ℕ → Status
+statusOf Op.Solve w t = solveStatus t
+statusOf Op.Job w t = jobStatus t
+statusOf Op.Result w t = resultStatus t
+statusOf Op.Image w t = ownStatus t
+statusOf Op.ImageIn w t = boxStatus t (boxAsked w .ends)
+statusOf Op.Decide w t = toldStatus w
+
+unfoldable pub textOf : Op → List ℕ → List ℕ → List ℕ
+textOf Op.Solve w t = solveText t
+textOf Op.Job w t = jobText t
+textOf Op.Result w t = resultText t
+textOf Op.Image w t = ownImage t
+textOf Op.ImageIn w t = boxImage t (boxAsked w .ends)
+textOf Op.Decide w t = toldText w
 
 -- `fault=`
 abbrev pub faultKey : List ℕ

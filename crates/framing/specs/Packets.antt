@@ -1,12 +1,13 @@
 -- The bytes of a request: its line, and what is kept of its text.
-use Prim.Native.Nat.{ℕ, suc, _+_, _-_, _≤_, min}
+use Prim.Native.Nat.{ℕ, _+_, _-_, _≤_, min}
 use mathlib.Core.Path.{_≡_}
-use mathlib.Core.List.{List, [], _∷_}
+use mathlib.Core.List.{List}
 use mathlib.Core.Bool.{cond}
 use lib.ListN.{length, take}
-use lib.Dec.{eqb, ltb, leb}
+use lib.Dec.{ltb, leb}
 use Rattle.sizes.specs.Sizes.{textMax}
 use Rattle.digits.specs.Bytes.{lineFeed}
+use Rattle.text.specs.Cut.{placeOf}
 use Rattle.framing.specs.Requests.{requestOf}
 use Rattle.framing.specs.declared.requests.Request.{Request}
 use Rattle.framing.specs.declared.packets.Seen.{Seen}
@@ -23,20 +24,15 @@ keptOf n = min n (textMax + 1)
 abbrev pub passedOf : ℕ → ℕ
 passedOf n = n - keptOf n
 
--- the place of the first LF; the length where there is none
-unfoldable pub lineEnd : List ℕ → ℕ
-lineEnd [] = 0
-lineEnd (b ∷ l) = cond (eqb b lineFeed) 0 (suc (lineEnd l))
-
 abbrev pub without : Seen → Packet
-without s = record { seen = s; from = 0; to = 0; passed = 0 }
+without s = record { seen = s; words = 0; from = 0; to = 0; passed = 0 }
 
 -- of n bytes at hand, those from `from` on are of the text
 unfoldable pub textAt : Request → ℕ → ℕ → Packet
 textAt Request.Bad from n = without Seen.Bad
-textAt (Request.Ask op length) from n =
+textAt (Request.Ask op length words) from n =
     cond (ltb n (from + keptOf length)) (without Seen.More)
-    (record { seen = Seen.Ask op; from = from; to = from + keptOf length; passed = passedOf length })
+    (record { seen = Seen.Ask op; words = words; from = from; to = from + keptOf length; passed = passedOf length })
 
 unfoldable pub lookAt : ℕ → List ℕ → Packet
 lookAt end have =
@@ -46,10 +42,16 @@ lookAt end have =
 
 -- a line has at most so many bytes; while it has fewer and no LF, more may come
 unfoldable pub lookOf : List ℕ → Packet
-lookOf have = lookAt (lineEnd have) have
+lookOf have = lookAt (placeOf lineFeed have) have
 
--- a packet of n bytes at hand, and that its text is among them
+-- how many bytes of its line say what is asked
+abbrev pub wordsOf : Request → ℕ
+wordsOf (Request.Ask op length words) = words
+wordsOf Request.Bad = 0
+
+-- a packet of n bytes at hand, and that its words and behind them its text are among them
 pub record Inside (r is : Packet) (n : ℕ) : Type 0 where
   pub same : r ≡ is
+  pub early : r .words ≤ r .from
   pub low : r .from ≤ r .to
   pub high : r .to ≤ n

@@ -1,20 +1,19 @@
--- The line of a request, without its LF: what is asked, one space, and the length of the text that follows.
-use Prim.Native.Nat.{ℕ, zero, suc, _+_, _-_, _*_, _≤_, min}
+-- The line of a request, without its LF: what is asked with its arguments, one space, and the length of the text that
+-- follows.
+use Prim.Native.Nat.{ℕ, zero, suc, _-_, _≤_}
 use mathlib.Core.Path.{_≡_}
 use mathlib.Core.List.{List, [], _∷_}
-use mathlib.Core.Bool.{Bool, false, cond}
+use mathlib.Core.Bool.{Bool, true, cond}
 use lib.ListN.{length, getD, take, drop}
 use lib.Dec.{eqb}
-use Rattle.digits.specs.Bytes.{digit0}
 use Rattle.text.specs.Keys.{sameBytes}
-use Rattle.digits.specs.Digits.{allDigits}
+use Rattle.arguments.specs.Counts.{countOf}
+use Rattle.arguments.specs.Words.{space, before, behind}
+use Rattle.arguments.specs.Boxes.{boxedBy, toldBy}
+use Rattle.arguments.specs.declared.counts.Counted.{Counted}
 use Rattle.framing.specs.declared.requests.Op.{Op}
 use Rattle.framing.specs.declared.requests.Named.{Named}
-use Rattle.framing.specs.declared.requests.Length.{Length}
 use Rattle.framing.specs.declared.requests.Request.{Request}
-
-abbrev pub space : ℕ
-space = 32
 
 -- `solve`
 abbrev pub solveWord : List ℕ
@@ -28,41 +27,55 @@ jobWord = 106 ∷ 111 ∷ 98 ∷ []
 abbrev pub resultWord : List ℕ
 resultWord = 114 ∷ 101 ∷ 115 ∷ 117 ∷ 108 ∷ 116 ∷ []
 
--- the table of the operations
-unfoldable pub operationOf : List ℕ → Named
-operationOf w =
+-- `image`
+abbrev pub imageWord : List ℕ
+imageWord = 105 ∷ 109 ∷ 97 ∷ 103 ∷ 101 ∷ []
+
+-- `decide`
+abbrev pub decideWord : List ℕ
+decideWord = 100 ∷ 101 ∷ 99 ∷ 105 ∷ 100 ∷ 101 ∷ []
+
+-- the operations without arguments
+unfoldable pub plainOf : List ℕ → Named
+plainOf w =
     cond (sameBytes solveWord w) (Named.Is Op.Solve)
     (cond (sameBytes jobWord w) (Named.Is Op.Job)
     (cond (sameBytes resultWord w) (Named.Is Op.Result)
-    Named.Unknown))
+    (cond (sameBytes imageWord w) (Named.Is Op.Image)
+    Named.Unknown)))
 
--- the greatest u64
-abbrev pub lengthMax : ℕ
-lengthMax = 18446744073709551615
+unfoldable pub namedIf : Bool → Op → Named
+namedIf good op = cond good (Named.Is op) Named.Unknown
 
--- a length that no u64 holds stands as the greatest one
-abbrev pub capped : ℕ → ℕ
-capped v = min v lengthMax
+-- those with arguments: `image LO HI`, `decide N LO HI KLO KHI`
+unfoldable pub arguedOf : List ℕ → List ℕ → Named
+arguedOf first rest =
+    cond (sameBytes imageWord first) (namedIf (boxedBy rest .good) Op.ImageIn)
+    (cond (sameBytes decideWord first) (namedIf (toldBy rest .good) Op.Decide)
+    Named.Unknown)
 
--- the number that digits spell after v
-unfoldable pub valueFrom : ℕ → List ℕ → ℕ
-valueFrom v [] = v
-valueFrom v (b ∷ bs) = valueFrom (v * 10 + (b - digit0)) bs
+unfoldable pub orElse : Named → Named → Named
+orElse (Named.Is op) next = Named.Is op
+orElse Named.Unknown next = next
 
--- digits, no leading zero unless it is 0 alone
-unfoldable pub isSpelled : List ℕ → Bool
-isSpelled s =
-    cond (eqb (length s) 0) false
-    (cond (eqb (getD s 0 0) digit0) (eqb (length s) 1)
-    (allDigits s))
+-- the table of the operations
+unfoldable pub operationOf : List ℕ → Named
+operationOf w = orElse (plainOf w) (arguedOf (before space w) (behind space w))
 
-unfoldable pub lengthOf : List ℕ → Length
-lengthOf s = cond (isSpelled s) (Length.Is (capped (valueFrom 0 s))) Length.Bad
+-- `decide` has no text
+unfoldable pub takesText : Op → ℕ → Bool
+takesText Op.Solve n = true
+takesText Op.Job n = true
+takesText Op.Result n = true
+takesText Op.Image n = true
+takesText Op.ImageIn n = true
+takesText Op.Decide n = eqb n 0
 
-unfoldable pub asked : Named → Length → Request
-asked (Named.Is op) (Length.Is n) = Request.Ask op n
-asked (Named.Is op) Length.Bad = Request.Bad
-asked Named.Unknown n = Request.Bad
+-- what so many bytes of the line ask, of a text of so many
+unfoldable pub asked : Named → Counted → ℕ → Request
+asked (Named.Is op) (Counted.Is n) words = cond (takesText op n) (Request.Ask op n words) Request.Bad
+asked (Named.Is op) Counted.Bad words = Request.Bad
+asked Named.Unknown n words = Request.Bad
 
 -- the place behind the last space among the first i bytes; 0 where there is none
 unfoldable pub afterSpace : ℕ → List ℕ → ℕ
@@ -75,7 +88,7 @@ pub record AfterSpace (r : ℕ) (l : List ℕ) : Type 0 where
 
 -- what is asked stands before the last space, the length behind it
 unfoldable pub split : ℕ → List ℕ → Request
-split at l = cond (eqb at 0) Request.Bad (asked (operationOf (take (at - 1) l)) (lengthOf (drop at l)))
+split at l = cond (eqb at 0) Request.Bad (asked (operationOf (take (at - 1) l)) (countOf (drop at l)) (at - 1))
 
 unfoldable pub requestOf : List ℕ → Request
 requestOf l = split (afterSpace (length l) l) l

@@ -5,8 +5,15 @@ ghost use lib.ListN.{length};
 ghost use Rattle.faults.specs.declared.Status.{Status};
 ghost use Rattle.writing.specs.Wrote.{placeMax, Wrote};
 ghost use Rattle.faults.specs.Answer.{Leaves};
-ghost use Rattle.framing.specs.Answers.{statusOf, textOf, roomMax, faultBytes, lineMax, Tells, Puts};
+ghost use Rattle.step_text.specs.Texts.{boxStatus, boxImage};
+ghost use Rattle.framing.specs.Answers.{boxAsked, toldAsked, toldStatus, toldText, statusOf, textOf};
+ghost use Rattle.framing.specs.Answers.{roomMax, faultBytes, lineMax, Tells, Puts};
 use crate::requests::Op;
+use arguments::Boxed;
+use arguments::Told;
+use arguments::box_of;
+use arguments::told_of;
+use arguments::words::first_word;
 use faults::Fault;
 use faults::Status;
 use faults::Written;
@@ -17,14 +24,55 @@ use writing::put_count_line;
 // Bytes that every answer fits in.
 pub const ROOM: usize = TEXT;
 
-pub fn reply(op: Op, text: &[u8], out: &mut [u8]) -> Written
-    ensures { λ a. ⌜ Leaves (statusOf op (now (text .entry))) (textOf op (now (text .entry))) (now (out .entry))
+// The box of `image LO HI`.
+fn box_asked(words: &[u8]) -> Boxed
+    ensures { λ r. ⌜ r ≡ boxAsked (now (words .entry)) ⌝ }
+{
+    let word = first_word(words);
+    let next = word.next;
+    box_of(&words[next..])
+}
+
+// What `decide N LO HI KLO KHI` is told.
+fn told_asked(words: &[u8]) -> Told
+    ensures { λ r. ⌜ r ≡ toldAsked (now (words .entry)) ⌝ }
+{
+    let word = first_word(words);
+    let next = word.next;
+    told_of(&words[next..])
+}
+
+fn reply_image(words: &[u8], text: &[u8], out: &mut [u8]) -> Written
+    ensures { λ a. ⌜ Leaves (boxStatus (now (text .entry)) (boxAsked (now (words .entry)) .ends))
+        (boxImage (now (text .entry)) (boxAsked (now (words .entry)) .ends)) (now (out .entry)) (now (out .exit)) a ⌝ }
+{
+    let asked = box_asked(words);
+    let x = asked.ends;
+    step_text::image_in(text, x, out)
+}
+
+fn reply_decide(words: &[u8], out: &mut [u8]) -> Written
+    ensures { λ a. ⌜ Leaves (toldStatus (now (words .entry))) (toldText (now (words .entry))) (now (out .entry))
         (now (out .exit)) a ⌝ }
+{
+    let told = told_asked(words);
+    let x = told.x;
+    let k = told.k;
+    step_text::decide(told.n, x, k, out)
+}
+
+// The words of a request say what is asked, with its arguments.
+pub fn reply(op: Op, words: &[u8], text: &[u8], out: &mut [u8]) -> Written
+    ensures { λ a. ⌜ Leaves (statusOf op (now (words .entry)) (now (text .entry)))
+        (textOf op (now (words .entry)) (now (text .entry))) (now (out .entry)) (now (out .exit)) a ⌝ }
 {
     match op {
         Op::Solve => desk::solve(text, out),
         Op::Job => desk::rewrite_job(text, out),
         Op::Result => desk::rewrite_result(text, out),
+        Op::Image => step_text::image(text, out),
+        Op::ImageIn => reply_image(words, text, out),
+        Op::Decide => reply_decide(words, out),
     }
 }
 

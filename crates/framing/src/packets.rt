@@ -2,7 +2,7 @@
 ghost use mathlib.Core.Path.{_≡_};
 ghost use Prim.Native.Nat.{_≤_};
 ghost use lib.ListN.{length};
-ghost use Rattle.framing.specs.Packets.{headerMax, keptOf, passedOf, without, textAt, lookOf, Inside};
+ghost use Rattle.framing.specs.Packets.{headerMax, keptOf, passedOf, without, textAt, wordsOf, lookOf, Inside};
 use crate::requests::Op;
 use crate::requests::Request;
 use crate::requests::request_of;
@@ -17,9 +17,11 @@ pub enum Seen {
     Ask(Op),
 }
 
-// What is kept of the text stands from..to among the bytes at hand; behind it `passed` bytes are to be passed over.
+// The first `words` bytes at hand say what is asked, what is kept of the text stands from..to; behind it `passed` bytes
+// are to be passed over.
 pub struct Packet {
     pub seen: Seen,
+    pub words: usize,
     pub from: usize,
     pub to: usize,
     pub passed: u64,
@@ -47,6 +49,7 @@ fn nothing(seen: Seen) -> Packet
 {
     Packet {
         seen,
+        words: 0,
         from: 0,
         to: 0,
         passed: 0,
@@ -56,17 +59,19 @@ fn nothing(seen: Seen) -> Packet
 // The text begins at `from`, and n bytes are at hand.
 fn text_at(request: Request, from: usize, n: usize) -> Packet
     requires { ⌜ (from ≤ headerMax) × (from ≤ n) ⌝ }
+    requires { ⌜ wordsOf request ≤ from ⌝ }
     ensures { λ r. ⌜ Inside r (textAt request from n) n ⌝ }
 {
     match request {
         Request::Bad => nothing(Seen::Bad),
-        Request::Ask(op, length) => {
+        Request::Ask(op, length, words) => {
             let to = from + kept(length);
             if n < to {
                 return nothing(Seen::More);
             }
             Packet {
                 seen: Seen::Ask(op),
+                words,
                 from,
                 to,
                 passed: passed(length),

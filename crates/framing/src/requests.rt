@@ -1,17 +1,22 @@
 // The line of a request: what is asked stands before the last space, the length of its text behind it.
 ghost use mathlib.Core.Path.{_≡_};
-ghost use Prim.Native.Nat.{_+_, _*_};
 ghost use Rattle.framing.specs.declared.requests.Named.{Named};
-ghost use Rattle.framing.specs.Requests.{operationOf, capped, valueFrom, isSpelled, lengthOf};
-ghost use Rattle.framing.specs.Requests.{asked, AfterSpace, requestOf};
-use digits::all_digits;
-use digits::digit;
+ghost use Rattle.framing.specs.Requests.{plainOf, namedIf, arguedOf, operationOf};
+ghost use Rattle.framing.specs.Requests.{takesText, asked, AfterSpace, requestOf};
+use arguments::Counted;
+use arguments::box_of;
+use arguments::count_of;
+use arguments::told_of;
+use arguments::words::first_word;
 use text::same_bytes;
 
 pub enum Op {
     Solve,
     Job,
     Result,
+    Image,
+    ImageIn,
+    Decide,
 }
 
 pub enum Named {
@@ -19,78 +24,69 @@ pub enum Named {
     Unknown,
 }
 
+// What is asked, how many bytes its text has, and how many of the line's say what is asked.
 pub enum Request {
-    Ask(Op, u64),
+    Ask(Op, u64, usize),
     Bad,
 }
 
-enum Length {
-    Is(u64),
-    Bad,
-}
-
-// The one table of the operations.
-pub fn operation(word: &[u8]) -> Named
-    ensures { λ r. ⌜ r ≡ operationOf (now (word .entry)) ⌝ }
+// The operations without arguments.
+fn plain(words: &[u8]) -> Named
+    ensures { λ r. ⌜ r ≡ plainOf (now (words .entry)) ⌝ }
 {
-    if same_bytes(word, b"solve") {
+    if same_bytes(words, b"solve") {
         return Named::Is(Op::Solve);
     }
-    if same_bytes(word, b"job") {
+    if same_bytes(words, b"job") {
         return Named::Is(Op::Job);
     }
-    if same_bytes(word, b"result") {
+    if same_bytes(words, b"result") {
         return Named::Is(Op::Result);
+    }
+    if same_bytes(words, b"image") {
+        return Named::Is(Op::Image);
     }
     Named::Unknown
 }
 
-// One digit more, as far as a u64 holds it.
-fn longer(v: u64, digit: u8) -> u64
-    ensures { λ r. ⌜ r ≡ capped (v * 10 + digit) ⌝ }
+fn named_if(good: bool, op: Op) -> Named
+    ensures { λ r. ⌜ r ≡ namedIf good op ⌝ }
 {
-    if v > u64::MAX / 10 {
-        return u64::MAX;
+    if good {
+        return Named::Is(op);
     }
-    let tens = v * 10;
-    let ones = digit as u64;
-    if tens > u64::MAX - ones {
-        return u64::MAX;
-    }
-    tens + ones
+    Named::Unknown
 }
 
-fn value_of(s: &[u8]) -> u64
-    ensures { λ r. ⌜ r ≡ capped (valueFrom 0 (now (s .entry))) ⌝ }
+// Those with arguments, which stand behind the first word.
+fn argued(first: &[u8], rest: &[u8]) -> Named
+    ensures { λ r. ⌜ r ≡ arguedOf (now (first .entry)) (now (rest .entry)) ⌝ }
 {
-    let mut v: u64 = 0;
-    let mut i = 0;
-    while i < s.len() {
-        v = longer(v, digit(s[i]));
-        i += 1;
+    if same_bytes(first, b"image") {
+        let x = box_of(rest);
+        return named_if(x.good, Op::ImageIn);
     }
-    v
+    if same_bytes(first, b"decide") {
+        let told = told_of(rest);
+        return named_if(told.good, Op::Decide);
+    }
+    Named::Unknown
 }
 
-fn spelled(s: &[u8]) -> bool
-    ensures { λ r. ⌜ r ≡ isSpelled (now (s .entry)) ⌝ }
+// The one table of the operations.
+pub fn operation(words: &[u8]) -> Named
+    ensures { λ r. ⌜ r ≡ operationOf (now (words .entry)) ⌝ }
 {
-    if s.len() == 0 {
-        return false;
+    let name = plain(words);
+    match name {
+        Named::Is(op) => Named::Is(op),
+        Named::Unknown => {
+            let word = first_word(words);
+            let end = word.end;
+            let next = word.next;
+            argued(&words[..end], &words[next..])
+        }
     }
-    if s[0] == b'0' {
-        return s.len() == 1;
-    }
-    all_digits(s)
-}
-
-fn length_of(s: &[u8]) -> Length
-    ensures { λ r. ⌜ r ≡ lengthOf (now (s .entry)) ⌝ }
-{
-    if spelled(s) {
-        return Length::Is(value_of(s));
-    }
-    Length::Bad
 }
 
 // The place behind the last space; 0 where there is none.
@@ -107,20 +103,39 @@ fn after_space(line: &[u8]) -> usize
     0
 }
 
-fn sized(op: Op, length: Length) -> Request
-    ensures { λ r. ⌜ r ≡ asked (Named.Is op) length ⌝ }
+// `decide` has no text.
+fn takes(op: Op, length: u64) -> bool
+    ensures { λ r. ⌜ r ≡ takesText op length ⌝ }
 {
-    match length {
-        Length::Is(n) => Request::Ask(op, n),
-        Length::Bad => Request::Bad,
+    match op {
+        Op::Solve => true,
+        Op::Job => true,
+        Op::Result => true,
+        Op::Image => true,
+        Op::ImageIn => true,
+        Op::Decide => length == 0,
     }
 }
 
-fn made(name: Named, length: Length) -> Request
-    ensures { λ r. ⌜ r ≡ asked name length ⌝ }
+fn sized(op: Op, length: Counted, words: usize) -> Request
+    ensures { λ r. ⌜ r ≡ asked (Named.Is op) length words ⌝ }
+{
+    match length {
+        Counted::Is(n) => {
+            if takes(op, n) {
+                return Request::Ask(op, n, words);
+            }
+            Request::Bad
+        }
+        Counted::Bad => Request::Bad,
+    }
+}
+
+fn made(name: Named, length: Counted, words: usize) -> Request
+    ensures { λ r. ⌜ r ≡ asked name length words ⌝ }
 {
     match name {
-        Named::Is(op) => sized(op, length),
+        Named::Is(op) => sized(op, length, words),
         Named::Unknown => Request::Bad,
     }
 }
@@ -134,5 +149,5 @@ pub fn request_of(line: &[u8]) -> Request
         return Request::Bad;
     }
     let end = at - 1;
-    made(operation(&line[..end]), length_of(&line[at..]))
+    made(operation(&line[..end]), count_of(&line[at..]), end)
 }

@@ -169,17 +169,18 @@ key-plain = omega arith
 system-plain : (k : Kind) (j : Job) (i : ℕ) → Above lineFeed (systemText k j i)
 unfolding systemText
 system-plain Kind.Poly j i = equation-above lineFeed (omega arith) (j .head .n) (equationAt (j .system .eqs) i)
-system-plain Kind.Linear j i = list-plain rowKey key-plain _
-system-plain Kind.Eigen j i = list-plain rowKey key-plain (placed (j .head .n) (j .head .n) (rowAt (j .system .rows) i))
+system-plain Kind.Linear j i = list-plain rowKey key-plain digitsMax _
+system-plain Kind.Eigen j i =
+    list-plain rowKey key-plain digitsMax (placed (j .head .n) (j .head .n) (rowAt (j .system .rows) i))
 
 pub plain : (j : Job) (k : JobLine) → Above lineFeed (jobLine k j)
 unfolding Above
 plain j JobLine.Number = count-plain jobKey (omega arith) (j .head .number)
 plain j JobLine.Kind = kind-above (j .head .kind)
 plain j JobLine.Unknowns = count-plain nKey (omega arith) (j .head .n)
-plain j JobLine.Lo = list-plain loKey (omega arith) (placed (j .head .n) (j .head .n) (j .ends .lo))
-plain j JobLine.Hi = list-plain hiKey (omega arith) (placed (j .head .n) (j .head .n) (j .ends .hi))
-plain j JobLine.Inv = list-plain invKey (omega arith) (matrixList (j .inv) (j .head .n))
+plain j JobLine.Lo = list-plain loKey (omega arith) digitsMax (placed (j .head .n) (j .head .n) (j .ends .lo))
+plain j JobLine.Hi = list-plain hiKey (omega arith) digitsMax (placed (j .head .n) (j .head .n) (j .ends .hi))
+plain j JobLine.Inv = list-plain invKey (omega arith) digitsMax (matrixList (j .inv) (j .head .n))
 plain j JobLine.Steps = count-plain stepsKey (omega arith) (j .steps)
 plain j (JobLine.System i) = system-plain (j .head .kind) j i
 plain j JobLine.End = tt

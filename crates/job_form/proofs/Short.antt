@@ -54,7 +54,7 @@ kind-short Kind.Linear j i h s =
     let right = getD (j .system .right) i (pos 0) in
     omega (
       arith,
-      list-line-short rowKey (row ++ (right ∷ [])),
+      list-line-short digitsMax rowKey (row ++ (right ∷ [])),
       length-append row (right ∷ []),
       length-tab (pos 0) n n (λ k. getD (rowAt (j .system .rows) i) k (pos 0)),
     )
@@ -62,7 +62,7 @@ kind-short Kind.Eigen j i h s =
     let n = j .head .n in
     omega (
       arith,
-      list-line-short rowKey (placed n n (rowAt (j .system .rows) i)),
+      list-line-short digitsMax rowKey (placed n n (rowAt (j .system .rows) i)),
       length-tab (pos 0) n n (λ k. getD (rowAt (j .system .rows) i) k (pos 0)),
     )
 
@@ -103,11 +103,11 @@ module _ (j : Job) (few : j .head .n ≤ nMax)
         count-line-short jobKey (j .head .number),
         word-short (j .head .kind),
         count-line-short nKey n,
-        list-line-short loKey (placed n n (j .ends .lo)),
+        list-line-short digitsMax loKey (placed n n (j .ends .lo)),
         length-tab (pos 0) n n (λ i. getD (j .ends .lo) i (pos 0)),
-        list-line-short hiKey (placed n n (j .ends .hi)),
+        list-line-short digitsMax hiKey (placed n n (j .ends .hi)),
         length-tab (pos 0) n n (λ i. getD (j .ends .hi) i (pos 0)),
-        list-line-short invKey (matrixList (j .inv) n),
+        list-line-short digitsMax invKey (matrixList (j .inv) n),
         matrix-long (j .inv) n,
         square-fits n few,
         count-line-short stepsKey (j .steps),

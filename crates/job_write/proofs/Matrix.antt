@@ -10,7 +10,7 @@ use Rattle.lists.specs.Loops.{tab}
 use Rattle.lists.proofs.Tab.{length-tab, getD-tab, tab-cong}
 use Rattle.digits.specs.Bytes.{comma}
 use Rattle.digits.specs.Show.{showNumber}
-use Rattle.text.specs.Lists.{placesMax, joined, showList}
+use Rattle.text.specs.Lists.{placesMax, joined, showAll, showList}
 use Rattle.text.specs.Words.{rowKey}
 use Rattle.reading.specs.NumberLines.{placed}
 use Rattle.writing.proofs.Lists.{taken-first}
@@ -39,7 +39,7 @@ module _ (rows : List Row) (n : ℕ) (few : n ≤ nMax) where
 -- one number more, after a comma
 list-snoc : (xs : List ℤ) (v : ℤ) → 0 < length xs
     → showList (xs ++ (v ∷ [])) ≡ (showList xs ++ (comma ∷ [])) ++ showNumber v
-unfolding showList commaBefore
+unfolding showAll commaBefore
 list-snoc [] v h = absurd (omega arith)
 list-snoc (x ∷ xs) v h =
     ap joined (map-append showNumber (x ∷ xs) (v ∷ [])) ∙ joined-snoc (map showNumber (x ∷ xs)) (showNumber v)

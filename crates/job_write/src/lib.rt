@@ -13,6 +13,7 @@ ghost use Rattle.faults.specs.declared.Status.{Status};
 ghost use Rattle.lines.specs.Texts.{kindText};
 ghost use Rattle.job_form.specs.JobBytes.{jobBytes};
 ghost use Rattle.job_write.specs.Parts.{linesBytes, headKinds, bodyKinds, PartFits};
+use digits::DIGITS;
 use faults::Fault;
 use faults::Status;
 use faults::Written;
@@ -55,8 +56,8 @@ fn put_body(buf: &mut [u8], at: usize, j: Job) -> usize
     let lo = j.ends.lo;
     let hi = j.ends.hi;
     let inv = j.inv;
-    let a = put_row_line(buf, at, b"lo=", lo, n);
-    let b = put_row_line(buf, a, b"hi=", hi, n);
+    let a = put_row_line(buf, at, b"lo=", lo, n, DIGITS);
+    let b = put_row_line(buf, a, b"hi=", hi, n, DIGITS);
     let c = put_inverse_line(buf, b, inv, n);
     put_count_line(buf, c, b"steps=", j.steps)
 }

@@ -8,6 +8,7 @@ ghost use Rattle.text.specs.Lists.{placesMax};
 ghost use Rattle.writing.specs.Wrote.{Wrote, line};
 ghost use Rattle.lines.specs.Texts.{entryOf, inverseText, sidedText};
 ghost use Rattle.job_write.specs.Parts.{SidedFits, MatrixFits};
+use digits::DIGITS;
 use jobs::Row;
 use sizes::N;
 use text::PLACES;
@@ -37,7 +38,7 @@ pub fn put_inverse_line(buf: &mut [u8], at: usize, inv: [Row; N], n: usize) -> u
     ensures { λ r. ⌜ Wrote (now (buf .entry)) (now (buf .exit)) at r (line (inverseText n inv)) ⌝ }
 {
     let all = entries(inv, n);
-    put_list_line(buf, at, b"inv=", &all[..n * n])
+    put_list_line(buf, at, b"inv=", &all[..n * n], DIGITS)
 }
 
 pub fn put_sided_line(buf: &mut [u8], at: usize, row: [i64; N], n: usize, right: i64) -> usize
@@ -45,8 +46,8 @@ pub fn put_sided_line(buf: &mut [u8], at: usize, row: [i64; N], n: usize, right:
     ensures { λ r. ⌜ Wrote (now (buf .entry)) (now (buf .exit)) at r (line (sidedText n row right)) ⌝ }
 {
     let a = put_bytes(buf, at, b"row=");
-    let b = put_list(buf, a, &row[..n]);
+    let b = put_list(buf, a, &row[..n], DIGITS);
     let c = put_byte(buf, b, b',');
-    let d = put_number(buf, c, right);
+    let d = put_number(buf, c, right, DIGITS);
     put_byte(buf, d, b'\n')
 }

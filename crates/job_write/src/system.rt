@@ -3,6 +3,7 @@ ghost use Rattle.writing.specs.Wrote.{Wrote, line};
 ghost use Rattle.job_form.specs.JobBytes.{systemText, systemKinds};
 ghost use Rattle.job_write.specs.Parts.{linesBytes, PartFits, LineFits};
 use crate::rows::put_sided_line;
+use digits::DIGITS;
 use jobs::Job;
 use jobs::Kind;
 use term_write::put_equation_line;
@@ -30,7 +31,7 @@ fn put_system_line(buf: &mut [u8], at: usize, j: Job, i: usize) -> usize
         Kind::Eigen => {
             let row = system.rows[i];
             let xs = row.at;
-            put_row_line(buf, at, b"row=", xs, n)
+            put_row_line(buf, at, b"row=", xs, n, DIGITS)
         }
     }
 }

@@ -15,9 +15,9 @@ use Rattle.jobs.specs.Accepted.{AllWithin}
 use Rattle.jobs.specs.Ranges.{isWithin, allWithin, allOrdered}
 use Rattle.faults.specs.declared.Fault.{Fault}
 use Rattle.reading.specs.NumberLines.{placed}
-use Rattle.reading.proofs.NumberLines.{small-tab}
+use Rattle.reading.proofs.NumberLines.{below-tab}
 use Rattle.digits.specs.Number.{digitsMax}
-use Rattle.text.specs.Lists.{Small}
+use Rattle.text.specs.Lists.{Below, Small}
 use Rattle.jobs.proofs.RangeLaws.{is-within, all-within}
 use Rattle.faults.specs.declared.Finding.{Finding}
 use Rattle.faults.specs.Checks.{badUnless, firstOf}
@@ -74,11 +74,11 @@ module _ (m n : ℕ) (few : n ≤ m) where
 -- ---- numbers within their size can be spelled
 
 module _ (n : ℕ) (xs : List ℤ) where
-  pub within-small : (B : ℕ) → B < 10 ^ digitsMax → AllWithin xs n B → Small (placed n n xs)
-  within-small B h w = small-tab n (λ i. getD xs i (pos 0)) (λ i l. omega (arith, w i l .abs))
+  pub within-below : (k B : ℕ) → B < 10 ^ k → AllWithin xs n B → Below k (placed n n xs)
+  within-below k B h w = below-tab k n (λ i. getD xs i (pos 0)) (λ i l. omega (arith, w i l .abs))
 
   tested-small : (B : ℕ) → B < 10 ^ digitsMax → allWithin xs n (pos B) ≡ true → Small (placed n n xs)
-  tested-small B h e = within-small B h (all-within xs n B e)
+  tested-small B h e = within-below digitsMax B h (all-within xs n B e)
 
   pub low-small : lowCheck n xs ≡ Finding.Fine → Small (placed n n xs)
   unfolding lowCheck
@@ -93,7 +93,7 @@ module _ (n : ℕ) (xs : List ℤ) where
   row-small e = tested-small entryMax (omega arith) (unless-fine _ _ e)
 
 small-snoc : (xs : List ℤ) (v : ℤ) → Small xs → natAbs v < 10 ^ digitsMax → Small (xs ++ (v ∷ []))
-unfolding Small
+unfolding Below
 small-snoc [] v s h = (h, tt)
 small-snoc (x ∷ xs) v s h = (s .0, small-snoc xs v (s .1) h)
 

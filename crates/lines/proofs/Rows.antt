@@ -10,6 +10,7 @@ use lib.IntN.{ℤ, pos}
 use Rattle.sizes.specs.Sizes.{nMax, entryMax}
 use Rattle.lists.proofs.All.{all-each, all-cong}
 use Rattle.lists.proofs.Tab.{length-tab, getD-tab, tab-cong}
+use Rattle.digits.specs.Number.{digitsMax}
 use Rattle.text.specs.Lists.{placesMax, Small}
 use Rattle.faults.specs.declared.Fault.{Fault}
 use Rattle.faults.specs.declared.Finding.{Finding}
@@ -23,7 +24,7 @@ use Rattle.jobs.specs.Ranges.{allWithin}
 use Rattle.jobs.specs.declared.Row.{Row}
 use Rattle.jobs.proofs.RangeLaws.{all-within}
 use Rattle.reading.specs.NumberLines.{placed}
-use Rattle.reading.proofs.NumberLines.{small-tab}
+use Rattle.reading.proofs.NumberLines.{below-tab}
 use Rattle.lines.specs.Places.{cells, rowsOf, liveRows}
 use Rattle.lines.specs.Texts.{entryOf, matrixList}
 use Rattle.lines.proofs.Checks.{live-at, within-live}
@@ -121,7 +122,7 @@ module _ (n : ℕ) (some : 0 < n) (few : n ≤ nMax) where
     pub matrix-within : ((i : ℕ) → i < n → AllWithin (rowAt rows i) n entryMax) → Small (matrixList rows n)
     unfolding matrixList entryOf
     matrix-within w =
-        small-tab (n * n) (entryOf rows n) (λ k l.
+        below-tab digitsMax (n * n) (entryOf rows n) (λ k l.
         omega (arith, w (k / n) (line-live k l) (k % n) (column-live k) .abs))
 
     pub matrix-small : inverseCheck n rows ≡ Finding.Fine → Small (matrixList rows n)

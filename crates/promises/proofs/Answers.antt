@@ -8,10 +8,10 @@ use native.Mathlib.Omega.{arith}
 use Rattle.intervals.specs.declared.Interval.{Interval}
 use Rattle.intervals.specs.Places.{sideAt}
 use Rattle.jobs.specs.declared.Verdict.{Verdict}
+use Rattle.step.specs.Step.{imageOf}
+use Rattle.step.specs.Meanings.{Strictly}
+use Rattle.step.proofs.Hold.{image-at}
 use Rattle.run.specs.declared.Outcome.{Outcome}
-use Rattle.run.specs.Step.{imageOf}
-use Rattle.run.specs.Meanings.{Strictly}
-use Rattle.run.proofs.Hold.{image-at}
 use Rattle.promises.specs.Claims.{Point, Lies, Same, Zero, Ordered, System, runWith}
 use Rattle.promises.specs.Claims.{Begins, Reaches, StrictlyOn, UniqueStep}
 use Rattle.promises.proofs.Contraction.{wide, contracts}

@@ -28,11 +28,11 @@ use Rattle.matrices.specs.Products.{bOf, eOf}
 use Rattle.matrices.proofs.Hold.{hold-e}
 use Rattle.systems.specs.Fractions.{InBox, unitsOf, power, DegreesIn, equationNum}
 use Rattle.systems.proofs.Factors.{power-pos, units-pos}
-use Rattle.run.specs.Step.{middleOf, offsetOf, slopeOf, imageOf}
-use Rattle.run.specs.Newton.{newtonScale, newtonNum}
-use Rattle.run.proofs.Newton.{scale-pos, quotientNum, newton-diff, zero-newton}
-use Rattle.run.proofs.Hold.{hold-middle, hold-quotient, middle-in, image-holds}
-use Rattle.run.specs.Meanings.{Strictly}
+use Rattle.step.specs.Step.{middleOf, offsetOf, slopeOf, imageOf}
+use Rattle.step.specs.Newton.{newtonScale, newtonNum}
+use Rattle.step.specs.Meanings.{Strictly}
+use Rattle.step.proofs.Newton.{scale-pos, quotientNum, newton-diff, zero-newton}
+use Rattle.step.proofs.Hold.{hold-middle, hold-quotient, middle-in, image-holds}
 use Rattle.intervals.specs.declared.Interval.{Interval}
 use Rattle.jobs.specs.declared.Equation.{Equation}
 use Rattle.promises.specs.Claims.{Ordered, widthOf, innerOf, Largest}

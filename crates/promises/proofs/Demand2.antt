@@ -19,9 +19,12 @@ use Rattle.jobs.specs.CheckResult.{checkResult}
 use Rattle.jobs.specs.Accepted.{Accepted}
 use Rattle.jobs.proofs.AcceptedLaws.{check-done}
 use Rattle.systems.specs.Kinds.{equationOf}
-use Rattle.run.specs.declared.Move.{Move}
-use Rattle.run.specs.Run.{outcome, imageBox, stepOf}
-use Rattle.run.specs.Job.{inverseOf, resultOf, runJob}
+use Rattle.step.specs.declared.Move.{Move}
+use Rattle.step.specs.Step.{imageBox}
+use Rattle.step.specs.Decide.{stepOf}
+use Rattle.step.specs.Values.{inverseOf}
+use Rattle.run.specs.Run.{outcome}
+use Rattle.run.specs.Job.{resultOf, runJob}
 use Rattle.reading.specs.Refused.{Decides, Refused}
 use Rattle.job_form.specs.JobForm.{jobForm, readJob}
 use Rattle.job_form.specs.JobBytes.{jobBytes}

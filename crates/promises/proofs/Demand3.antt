@@ -17,8 +17,11 @@ use Rattle.jobs.specs.Checks.{checkJob}
 use Rattle.jobs.specs.Accepted.{Accepted}
 use Rattle.jobs.proofs.AcceptedLaws.{check-done}
 use Rattle.systems.specs.Kinds.{equationOf}
-use Rattle.run.specs.Run.{outcome, settle, stepOf, imageBox}
-use Rattle.run.specs.Job.{startOf, inverseOf, resultOf, runJob}
+use Rattle.step.specs.Step.{imageBox}
+use Rattle.step.specs.Decide.{stepOf}
+use Rattle.step.specs.Values.{startOf, inverseOf}
+use Rattle.run.specs.Run.{outcome, settle}
+use Rattle.run.specs.Job.{resultOf, runJob}
 use Rattle.promises.specs.Claims.{Point, Lies, Same, newtonOf, BoxInside, System, Begins, UniqueStep}
 use Rattle.promises.specs.Jobs.{allow, jobRun, Solves, SolvesLinear, Eigenpair}
 use Rattle.promises.proofs.Jobs.{systemOf, solves-zero}

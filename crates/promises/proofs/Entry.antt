@@ -9,8 +9,9 @@ use Rattle.jobs.specs.declared.Equation.{Equation}
 use Rattle.jobs.specs.Accepted.{GoodSystem, Accepted}
 use Rattle.jobs.proofs.AcceptedLaws.{done-check}
 use Rattle.systems.specs.Kinds.{equationBy, equationOf}
+use Rattle.step.specs.Values.{startOf, inverseOf}
 use Rattle.run.specs.Run.{runOf}
-use Rattle.run.specs.Job.{startOf, inverseOf, outcomeOf, resultOf, runJob}
+use Rattle.run.specs.Job.{outcomeOf, resultOf, runJob}
 use Rattle.promises.specs.Jobs.{allow, jobRun}
 
 module _ (j : Job) (a : ℕ) where
@@ -33,7 +34,7 @@ module _ (j : Job) (a : ℕ) where
       by Kind.Eigen g = g
 
   allow-outcome : outcomeOf (allow a j) ≡ jobRun j a
-  unfolding outcomeOf startOf
+  unfolding outcomeOf
   allow-outcome = ap (λ (q : ℕ → Equation). runOf (j .head .n) q (inverseOf j) a 0 (startOf j)) (fun-ext allow-equation)
 
   allow-accepted : Accepted j → a ≤ stepsMax → Accepted (allow a j)

@@ -25,10 +25,10 @@ use Rattle.jobs.specs.Checks.{jobLineStatus, systemLines, headLines, bodyLines,
 use Rattle.systems.specs.Terms.{factorI, termOver, equationOver, lowered, termSlope, slopeOver}
 use Rattle.systems.specs.Fractions.{unitsOf}
 use Rattle.systems.specs.Kinds.{rowOf, unitE, linearEquation, equationOf}
-use Rattle.run.specs.Step.{imageOf}
-use Rattle.run.specs.Decide.{allMeet, allInside, decideOf}
-use Rattle.run.specs.Run.{imageBox, stepOf, runOf}
-use Rattle.run.specs.Job.{startOf}
+use Rattle.step.specs.Step.{imageOf, imageBox}
+use Rattle.step.specs.Decide.{allMeet, allInside, decideOf, stepOf}
+use Rattle.step.specs.Values.{boxOf, startOf}
+use Rattle.run.specs.Run.{runOf}
 use Rattle.jobs.specs.declared.Kind.{Kind}
 use Rattle.jobs.specs.declared.Row.{Row}
 use Rattle.jobs.specs.declared.Job.{Job}
@@ -63,7 +63,7 @@ accepted = refl
 
 -- "unique, 1"
 pub answer : jobRun job11 1 .verdict ≡ Verdict.Unique
-unfolding startOf runOf stepOf imageBox imageOf decideOf allMeet allInside allB meetsI insideI dOf bOf entryB eOf dotI
+unfolding boxOf runOf stepOf imageBox imageOf decideOf allMeet allInside allB meetsI insideI dOf bOf entryB eOf dotI
     unitZ sumI carry addI negI scaleI wideI outI mulI powerI midI
     floorBy ceilBy minℤ maxℤ equationOver slopeOver termSlope termOver factorI lowered equationOf
     linearEquation unitE tab
@@ -87,8 +87,8 @@ starts : Lies 2 point11 (startOf job11)
 starts = record { den = omega zorder; each = side }
   where
     side : (k : ℕ) → k < 2 → In (point11 .num k) (pos 1) (sideAt (startOf job11) k)
-    side zero l = unfold startOf tab in (record { den = omega zorder; low = omega zorder; high = omega zorder })
-    side (suc zero) l = unfold startOf tab in (record { den = omega zorder; low = omega zorder; high = omega zorder })
+    side zero l = unfold boxOf tab in (record { den = omega zorder; low = omega zorder; high = omega zorder })
+    side (suc zero) l = unfold boxOf tab in (record { den = omega zorder; low = omega zorder; high = omega zorder })
     side (suc (suc k)) l = absurd (omega arith)
 
 -- so every fraction solution of A x = b in the starting box is this one

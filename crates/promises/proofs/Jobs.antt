@@ -12,7 +12,6 @@ use Rattle.integers.proofs.Linear.{zlin}
 use Rattle.integers.proofs.Order.{cancel-r}
 use Rattle.integers.proofs.Ring.{lit, _⊖_, _⊗_, ring}
 use Rattle.intervals.specs.Places.{sideAt, numberAt}
-use Rattle.intervals.proofs.Places.{side-made}
 use Rattle.jobs.specs.Accepted.{GoodSystem, Accepted}
 use Rattle.systems.specs.Fractions.{unitsOf, DegreesIn}
 use Rattle.systems.specs.Kinds.{pinned, rowOf, equationBy, equationOf}
@@ -20,7 +19,8 @@ use Rattle.systems.specs.Formulas.{linearNum, coordinate, eigenNum, formulaNum}
 use Rattle.systems.proofs.Factors.{power-pos, units-pos}
 use Rattle.intervals.specs.Interval.{mark}
 use Rattle.systems.proofs.Formulas.{equation-is, equation-degrees}
-use Rattle.run.specs.Job.{startSide, startOf, inverseOf}
+use Rattle.step.specs.Values.{startOf, inverseOf}
+use Rattle.step.proofs.Given.{start-in}
 use Rattle.jobs.specs.declared.Kind.{Kind}
 use Rattle.jobs.specs.declared.Job.{Job}
 use Rattle.promises.specs.Claims.{Point, Zero, Ordered, System}
@@ -32,8 +32,7 @@ module _ (j : Job) (a : Accepted j) where
   given-degrees i l e = let good : GoodSystem Kind.Poly j i = rw e at (a .system i l) in record { each = good .deg }
 
   pub start-order : Ordered (j .head .n) (sideAt (startOf j))
-  unfolding startOf
-  start-order k l = rw (side-made (j .head .n) (a .few) (startSide j) refl k l) (a .ordered k l)
+  start-order k l = start-in a .each k l .order
 
   abbrev pub systemOf : System
   systemOf = record {

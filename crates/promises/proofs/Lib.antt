@@ -12,3 +12,5 @@ pub mod Results
 pub mod Demand3
 pub mod Demand2
 pub mod Examples
+pub mod ByTwo
+pub mod RequestP7

@@ -13,9 +13,9 @@ use Rattle.integers.proofs.Order.{mul-lt-r, nonneg, pos-mul}
 use Rattle.integers.proofs.Absolute.{abs-pos, abs-mul}
 use Rattle.intervals.specs.Places.{sideAt}
 use Rattle.systems.specs.Fractions.{InBox, power, DegreesIn}
-use Rattle.run.specs.Step.{imageOf}
-use Rattle.run.specs.Newton.{newtonScale, newtonDen, newtonNum}
-use Rattle.run.specs.Meanings.{Strictly}
+use Rattle.step.specs.Step.{imageOf}
+use Rattle.step.specs.Newton.{newtonScale, newtonDen, newtonNum}
+use Rattle.step.specs.Meanings.{Strictly}
 use Rattle.intervals.specs.declared.Interval.{Interval}
 use Rattle.jobs.specs.declared.Equation.{Equation}
 use Rattle.promises.specs.Claims.{Ordered, Point, Lies, Same, Zero, newtonOf}

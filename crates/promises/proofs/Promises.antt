@@ -6,7 +6,9 @@ use mathlib.Core.List.{List}
 use Prim.Native.Nat.{ℕ, _+_, _-_, _≤_, _<_}
 use Rattle.intervals.specs.declared.Interval.{Interval}
 use Rattle.jobs.specs.declared.Verdict.{Verdict}
-use Rattle.run.specs.Run.{outcome, settle, stepOf, imageBox}
+use Rattle.step.specs.Step.{imageBox}
+use Rattle.step.specs.Decide.{stepOf}
+use Rattle.run.specs.Run.{outcome, settle}
 use Rattle.promises.specs.Claims.{Point, Lies, Same, Zero, newtonOf, BoxInside}
 use Rattle.promises.specs.Claims.{System, runWith, Begins, UniqueStep}
 use Rattle.promises.proofs.Runs.{more, run-one, run-on, run-nested, image-box}

@@ -1,30 +1,34 @@
--- The result of an accepted job has no fault: its box lies in the starting box, with its ends in order, and no more
--- steps are counted than were allowed. Its text is no longer than a text may be.
+-- The result of a run has no fault, from whatever box in range it began: its box lies in that one, with its ends in
+-- order, and no more steps are counted than were allowed. Its text is no longer than a text may be.
 use Prim.Native.Nat.{ℕ, _+_, _≤_, _<_}
 use native.Mathlib.Omega.{arith}
 use mathlib.Core.Path.{_≡_, refl}
 use mathlib.Core.List.{List}
 use lib.ListN.{length, getD}
 use lib.IntN.{ℤ, pos}
-use Rattle.sizes.specs.Sizes.{nMax, textMax, endMax}
+use Rattle.sizes.specs.Sizes.{nMax, textMax, stepsMax, endMax}
 use Rattle.integers.specs.Ranges.{Within}
 use Rattle.integers.proofs.Parts.{zorder}
 use Rattle.integers.proofs.Ranges.{within, within-lo, within-hi}
 use Rattle.lists.proofs.Tab.{getD-tab}
 use Rattle.intervals.specs.Places.{sideAt}
-use Rattle.intervals.proofs.Places.{side-made}
 use Rattle.jobs.specs.Checks.{checkJob}
 use Rattle.jobs.specs.CheckResult.{checkResult}
 use Rattle.jobs.specs.Accepted.{Accepted}
 use Rattle.jobs.proofs.AcceptedLaws.{check-done}
 use Rattle.jobs.proofs.RangeLaws.{within-all, ordered-all}
 use Rattle.jobs.proofs.CheckResultLaws.{Sound, sound, unfaulted}
+use Rattle.intervals.specs.declared.Interval.{Interval}
 use Rattle.jobs.specs.declared.Job.{Job}
 use Rattle.faults.specs.declared.Status.{Status}
 use Rattle.systems.specs.Kinds.{equationOf}
-use Rattle.run.specs.Job.{startSide, startOf, inverseOf, outcomeOf, lowEnds, highEnds, resultOf, runJob}
+use Rattle.systems.specs.Ranges.{BoxIn}
+use Rattle.step.specs.Values.{startOf, inverseOf, lowEnds, highEnds}
+use Rattle.step.proofs.Given.{start-in}
+use Rattle.run.specs.declared.Outcome.{Outcome}
+use Rattle.run.specs.Job.{runFrom, outcomeOf, resultOf, runJob}
 use Rattle.promises.specs.Claims.{Ordered, BoxInside}
-use Rattle.promises.proofs.Jobs.{systemOf, start-order}
+use Rattle.promises.proofs.Jobs.{systemOf}
 use Rattle.promises.proofs.Runs.{run-count, run-shrinks, run-ordered}
 use Rattle.result_form.specs.ResultShows.{showResult}
 use Rattle.result_form.proofs.Trips.{result-short}
@@ -33,63 +37,63 @@ module _ (j : Job) (checked : checkJob j ≡ Status.Done) where
   accepted : Accepted j
   accepted = check-done j checked
 
-  inside : BoxInside (j .head .n) (outcomeOf j .sides) (startOf j)
-  unfolding outcomeOf
-  inside = run-shrinks (j .head .n) (equationOf j) (inverseOf j) (accepted .few) (j .steps) 0 (startOf j)
+  -- ---- from the box x on, with the allowance a
+  module _ (x : List Interval) (box : BoxIn (j .head .n) (sideAt x)) (a : ℕ) where
+    abbrev o : Outcome
+    o = runFrom j x a
 
-  in-order : Ordered (j .head .n) (sideAt (outcomeOf j .sides))
-  unfolding outcomeOf
-  in-order =
-      run-ordered (j .head .n) (equationOf j) (inverseOf j) (accepted .few) (systemOf j accepted .degrees) (j .steps) 0
-      (startOf j) (start-order j accepted)
+    inside : BoxInside (j .head .n) (o .sides) x
+    inside = run-shrinks (j .head .n) (equationOf j) (inverseOf j) (accepted .few) a 0 x
 
-  few-steps : outcomeOf j .steps ≤ 0 + j .steps
-  unfolding outcomeOf
-  few-steps = run-count (j .head .n) (equationOf j) (inverseOf j) (j .steps) 0 (startOf j)
+    in-order : Ordered (j .head .n) (sideAt (o .sides))
+    in-order = run-ordered (j .head .n) (equationOf j) (inverseOf j) (accepted .few) (systemOf j accepted .degrees) a 0
+        x (λ k l. box .each k l .order)
 
-  start-at : (k : ℕ) → k < j .head .n → sideAt (startOf j) k ≡ startSide j k
-  unfolding startOf
-  start-at k l = side-made (j .head .n) (accepted .few) (startSide j) refl k l
+    module _ (k : ℕ) (l : k < j .head .n) where
+      low : Within (sideAt (o .sides) k .lo) endMax
+      low = within _ endMax (omega (zorder, inside .each k l .low, within-lo (box .each k l .low)))
+          (omega (zorder, in-order k l, inside .each k l .high, within-hi (box .each k l .high)))
 
-  abbrev lows : List ℤ
-  lows = lowEnds (j .head .n) (outcomeOf j .sides)
+      high : Within (sideAt (o .sides) k .hi) endMax
+      high = within _ endMax (omega (zorder, in-order k l, inside .each k l .low, within-lo (box .each k l .low)))
+          (omega (zorder, inside .each k l .high, within-hi (box .each k l .high)))
 
-  abbrev highs : List ℤ
-  highs = highEnds (j .head .n) (outcomeOf j .sides)
+      low-at : getD (lowEnds (j .head .n) (o .sides)) k (pos 0) ≡ sideAt (o .sides) k .lo
+      low-at = getD-tab (pos 0) nMax (j .head .n) (λ k. sideAt (o .sides) k .lo) (pos 0) k l (accepted .few)
 
-  module _ (k : ℕ) (l : k < j .head .n) where
-    low : Within (sideAt (outcomeOf j .sides) k .lo) endMax
-    low =
-        let box = rw (start-at k l) at (inside .each k l) in
-        within _ endMax (omega (zorder, box .low, within-lo (accepted .low k l)))
-        (omega (zorder, in-order k l, box .high, within-hi (accepted .high k l)))
+      high-at : getD (highEnds (j .head .n) (o .sides)) k (pos 0) ≡ sideAt (o .sides) k .hi
+      high-at = getD-tab (pos 0) nMax (j .head .n) (λ k. sideAt (o .sides) k .hi) (pos 0) k l (accepted .few)
 
-    high : Within (sideAt (outcomeOf j .sides) k .hi) endMax
-    high =
-        let box = rw (start-at k l) at (inside .each k l) in
-        within _ endMax (omega (zorder, in-order k l, box .low, within-lo (accepted .low k l)))
-        (omega (zorder, box .high, within-hi (accepted .high k l)))
+    -- the box that is left can be run from again
+    pub from-in : BoxIn (j .head .n) (sideAt (o .sides))
+    from-in = record {
+      places = accepted .few;
+      each = λ k l. record { order = in-order k l; low = low k l; high = high k l };
+    }
 
-    low-at : getD lows k (pos 0) ≡ sideAt (outcomeOf j .sides) k .lo
-    low-at = getD-tab (pos 0) nMax (j .head .n) (λ k. sideAt (outcomeOf j .sides) k .lo) (pos 0) k l (accepted .few)
+    module _ (few : a ≤ stepsMax) where
+      from-sound : Sound (resultOf j o)
+      unfolding resultOf
+      from-sound = record {
+        number = accepted .number;
+        steps = omega (arith, run-count (j .head .n) (equationOf j) (inverseOf j) a 0 x, few);
+        some = accepted .some;
+        few = accepted .few;
+        low = within-all _ (j .head .n) endMax (λ k l. rw (low-at k l) (low k l));
+        high = within-all _ (j .head .n) endMax (λ k l. rw (high-at k l) (high k l));
+        ordered = ordered-all _ _ (j .head .n) (λ k l. rw (low-at k l, high-at k l) (in-order k l));
+      }
 
-    high-at : getD highs k (pos 0) ≡ sideAt (outcomeOf j .sides) k .hi
-    high-at = getD-tab (pos 0) nMax (j .head .n) (λ k. sideAt (outcomeOf j .sides) k .hi) (pos 0) k l (accepted .few)
+      pub from-checked : checkResult (resultOf j o) ≡ Status.Done
+      from-checked = unfaulted (resultOf j o) from-sound
 
-  run-sound : Sound (resultOf j (outcomeOf j))
-  unfolding resultOf
-  run-sound = record {
-    number = accepted .number;
-    steps = omega (arith, few-steps, accepted .steps);
-    some = accepted .some;
-    few = accepted .few;
-    low = within-all lows (j .head .n) endMax (λ k l. rw (low-at k l) (low k l));
-    high = within-all highs (j .head .n) endMax (λ k l. rw (high-at k l) (high k l));
-    ordered = ordered-all lows highs (j .head .n) (λ k l. rw (low-at k l, high-at k l) (in-order k l));
-  }
+      pub from-short : length (showResult (resultOf j o)) ≤ textMax
+      from-short = result-short (resultOf j o) (from-sound .few)
 
+  -- ---- from its own box, with its own allowance
   pub result-checked : checkResult (resultOf j (outcomeOf j)) ≡ Status.Done
-  result-checked = unfaulted (resultOf j (outcomeOf j)) run-sound
+  unfolding outcomeOf
+  result-checked = from-checked (startOf j) (start-in accepted) (j .steps) (accepted .steps)
 
   pub run-done : runJob j .status ≡ Status.Done
   unfolding runJob

@@ -19,15 +19,15 @@ use Rattle.intervals.proofs.Inclusion.{inside-trans}
 use Rattle.jobs.specs.declared.Equation.{Equation}
 use Rattle.jobs.specs.declared.Verdict.{Verdict}
 use Rattle.systems.specs.Fractions.{InBox, DegreesIn, equationNum}
+use Rattle.step.specs.Step.{imageOf, imageBox}
+use Rattle.step.specs.Newton.{newtonDen, newtonNum}
+use Rattle.step.specs.Decide.{allMeet, cutBox, decideOf, stepOf}
+use Rattle.step.specs.Meanings.{Strictly}
+use Rattle.step.proofs.Hold.{middle-in, image-holds, image-keeps, image-at}
+use Rattle.step.proofs.Decisions.{zero-one, Decided, none, unique, stalled, next}
+use Rattle.step.proofs.Decisions.{decided, all-meet, cut-at, cut-inside, cut-ordered, step-is}
 use Rattle.run.specs.declared.Outcome.{Outcome}
-use Rattle.run.specs.Step.{imageOf}
-use Rattle.run.specs.Newton.{newtonDen, newtonNum}
-use Rattle.run.specs.Decide.{allMeet, cutBox, decideOf}
-use Rattle.run.specs.Meanings.{Strictly}
-use Rattle.run.specs.Run.{outcome, settle, imageBox, stepOf, runOf}
-use Rattle.run.proofs.Hold.{middle-in, image-holds, image-keeps, image-at}
-use Rattle.run.proofs.Decisions.{zero-one, Decided, none, unique, stalled, next, decided}
-use Rattle.run.proofs.Decisions.{all-meet, cut-at, cut-inside, cut-ordered, step-is}
+use Rattle.run.specs.Run.{outcome, settle, runOf}
 use Rattle.promises.specs.Claims.{Ordered, BoxInside}
 
 false-true : {b : Bool} → b ≡ false → b ≡ true → ⊥

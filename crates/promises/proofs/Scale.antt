@@ -21,7 +21,7 @@ use Rattle.systems.specs.Terms.{coefOf, expsOf}
 use Rattle.jobs.specs.Terms.{degree}
 use Rattle.systems.specs.Fractions.{InBox, unitsOf, power, termNum, DegreesIn, equationNum}
 use Rattle.systems.proofs.Factors.{power-pos, power-add, times-one}
-use Rattle.run.specs.Newton.{newtonScale, newtonDen, newtonNum}
+use Rattle.step.specs.Newton.{newtonScale, newtonDen, newtonNum}
 use Rattle.intervals.specs.declared.Interval.{Interval}
 use Rattle.jobs.specs.declared.Equation.{Equation}
 

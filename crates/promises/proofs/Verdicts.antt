@@ -7,12 +7,13 @@ use native.Mathlib.Omega.{arith}
 use Rattle.intervals.specs.declared.Interval.{Interval}
 use Rattle.intervals.specs.Places.{sideAt}
 use Rattle.jobs.specs.declared.Verdict.{Verdict}
-use Rattle.run.specs.declared.Move.{Move}
+use Rattle.step.specs.declared.Move.{Move}
+use Rattle.step.specs.Step.{imageBox}
+use Rattle.step.specs.Decide.{cutBox, decideOf, stepOf}
+use Rattle.step.proofs.Decisions.{zero-one, Decided, none, unique, stalled, next, decided}
+use Rattle.step.proofs.Exactly.{none-exactly, unique-exactly, stalled-exactly}
 use Rattle.run.specs.declared.Outcome.{Outcome}
-use Rattle.run.specs.Decide.{cutBox, decideOf}
-use Rattle.run.specs.Run.{outcome, settle, imageBox, stepOf, runOf}
-use Rattle.run.proofs.Decisions.{zero-one, Decided, none, unique, stalled, next, decided}
-use Rattle.run.proofs.Exactly.{none-exactly, unique-exactly, stalled-exactly}
+use Rattle.run.specs.Run.{outcome, settle, runOf}
 use Rattle.promises.specs.Claims.{Ordered, System, runWith, Begins, Reaches, EmptyOn, StrictlyOn, UnchangedOn}
 use Rattle.promises.proofs.Runs.{verdict-of, more, whole-spent, run-one, run-on}
 use Rattle.promises.proofs.Runs.{run-stays, image-ordered, run-ordered, deciding}

@@ -11,9 +11,10 @@ use Rattle.integers.specs.Absolute.{absℤ}
 use Rattle.intervals.specs.Places.{sideAt}
 use Rattle.intervals.specs.Fraction.{Inside}
 use Rattle.systems.specs.Fractions.{InBox, DegreesIn, equationNum}
-use Rattle.run.specs.Newton.{newtonScale, newtonDen, newtonNum}
-use Rattle.run.specs.Meanings.{Empty, Strictly, Unchanged}
-use Rattle.run.specs.Run.{outcome, imageBox, runOf}
+use Rattle.step.specs.Step.{imageBox}
+use Rattle.step.specs.Newton.{newtonScale, newtonDen, newtonNum}
+use Rattle.step.specs.Meanings.{Empty, Strictly, Unchanged}
+use Rattle.run.specs.Run.{outcome, runOf}
 use Rattle.intervals.specs.declared.Interval.{Interval}
 use Rattle.jobs.specs.declared.Equation.{Equation}
 use Rattle.jobs.specs.declared.Verdict.{Verdict}

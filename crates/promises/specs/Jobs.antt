@@ -7,10 +7,10 @@ use Rattle.integers.specs.Sums.{sumTo}
 use Rattle.intervals.specs.Interval.{mark}
 use Rattle.intervals.specs.Places.{numberAt}
 use Rattle.systems.specs.Fractions.{unitsOf}
-use Rattle.systems.specs.Kinds.{pinned, rowOf, equationOf}
+use Rattle.systems.specs.Kinds.{pinned, rowOf}
 use Rattle.systems.specs.Formulas.{coordinate, formulaNum}
-use Rattle.run.specs.Run.{runOf}
-use Rattle.run.specs.Job.{startOf, inverseOf}
+use Rattle.step.specs.Values.{startOf}
+use Rattle.run.specs.Job.{runFrom}
 use Rattle.jobs.specs.Parts.{withSteps}
 use Rattle.jobs.specs.declared.Job.{Job}
 use Rattle.run.specs.declared.Outcome.{Outcome}
@@ -20,9 +20,9 @@ use Rattle.promises.specs.Claims.{Point}
 abbrev pub allow : ℕ → Job → Job
 allow allowance j = withSteps j allowance
 
--- the job's run with an allowance
+-- the job's run with an allowance, from its own starting box
 abbrev pub jobRun : Job → ℕ → Outcome
-jobRun j allowance = runOf (j .head .n) (equationOf j) (inverseOf j) allowance 0 (startOf j)
+jobRun j = runFrom j (startOf j)
 
 -- the point is a zero of the job: the formula of each equation is 0 there
 pub record Solves (j : Job) (p : Point) : Type 0 where

@@ -1,2 +1,3 @@
 pub mod Claims
 pub mod Jobs
+pub mod ByTwo

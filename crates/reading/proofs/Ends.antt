@@ -9,14 +9,14 @@ use lib.Seq.{getD-drop}
 use lib.Dec.{eqb, ltb}
 use borrow.Author.Tests.{eqb-true, eqb-false}
 use Rattle.digits.specs.Bytes.{lineFeed}
-use Rattle.digits.proofs.Cases.{either}
-use Rattle.text.specs.Cut.{PieceEnd}
+use Rattle.text.specs.Cut.{placeOf, PieceEnd}
+use Rattle.text.proofs.Ends.{end-from}
 use Rattle.reading.specs.Got.{Got, after}
 use Rattle.reading.specs.Places.{part, lineLength, lineEnd, lineAt}
 
 -- the first line of a text
 first-end : (s : List ℕ) → PieceEnd s lineFeed 0 (lineLength s)
-unfolding lineLength
+unfolding placeOf
 first-end [] = record {
   after = omega arith;
   inside = omega arith;
@@ -61,14 +61,8 @@ module _ (t : List ℕ) (a : ℕ) where
       }
 
   pub end-is : {e : ℕ} → PieceEnd t lineFeed a e → e ≡ lineEnd t a
-  end-is {e} p =
-      let q = line-end (omega arith) in
-      either e (lineEnd t a)
-      (λ h. absurd (q .none e (p .after) h (p .ends (omega arith))))
-      (λ h.
-      either (lineEnd t a) e
-      (λ k. absurd (p .none (lineEnd t a) (q .after) k (q .ends (omega arith))))
-      (λ k. omega arith))
+  unfolding lineEnd
+  end-is p = omega (arith, end-from p, p .after)
 
 pub line-after : {F A B : Type 0} (odd : F) (f : List ℕ → Got F A) (h : A → B) (t : List ℕ) (a : ℕ)
     → lineAt odd (λ l. after (f l) h) t a ≡ after (lineAt odd f t a) h

@@ -11,12 +11,12 @@ use borrow.Author.Tests.{eqb-true, eq-eqb}
 use Rattle.lists.specs.Loops.{tab}
 use Rattle.lists.proofs.Tab.{length-tab, getD-tab, tab-cong}
 use Rattle.digits.specs.Number.{digitsMax, readNumber}
-use Rattle.digits.specs.Show.{showMagnitude, showNumber}
+use Rattle.digits.specs.Show.{showMagnitude, showSigned}
 use Rattle.digits.specs.declared.Number.{Number}
 use Rattle.digits.proofs.ReadBack.{number-back}
 use Rattle.text.specs.Keys.{bodyOf}
 use Rattle.text.specs.Counts.{inCount, countOf}
-use Rattle.text.specs.Lists.{placesMax, readList, joined, showList, Small}
+use Rattle.text.specs.Lists.{placesMax, readList, joined, showAll, showList, Below, Small}
 use Rattle.text.specs.declared.Count.{Count}
 use Rattle.text.specs.declared.Numbers.{Numbers}
 use Rattle.digits.specs.Bytes.{lineFeed}
@@ -35,8 +35,8 @@ module _ (key : List ℕ) (plain : Above lineFeed key) where
   pub count-plain : (m : ℕ) → Above lineFeed (key ++ showMagnitude digitsMax m)
   count-plain m = above-append lineFeed key _ plain (magnitude-above lineFeed (omega arith) digitsMax m)
 
-  pub list-plain : (xs : List ℤ) → Above lineFeed (key ++ showList xs)
-  list-plain xs = above-append lineFeed key _ plain (list-above lineFeed (omega arith) xs)
+  pub list-plain : (k : ℕ) (xs : List ℤ) → Above lineFeed (key ++ showAll k xs)
+  list-plain k xs = above-append lineFeed key _ plain (list-above lineFeed (omega arith) k xs)
 
 -- ---- the first numbers of a list
 
@@ -65,10 +65,10 @@ first-kept (v ∷ vs) zero k h q = absurd (omega arith)
 first-kept (v ∷ vs) (suc m) zero h q = absurd (omega arith)
 first-kept (v ∷ vs) (suc m) (suc k) h q = ap (λ (l : List ℤ). v ∷ l) (first-kept vs m k (omega arith) (omega arith))
 
-pub small-tab : (n : ℕ) (f : ℕ → ℤ) → ((i : ℕ) → i < n → natAbs (f i) < 10 ^ digitsMax) → Small (tab n n (pos 0) f)
-unfolding tab Small
-small-tab zero f h = tt
-small-tab (suc n) f h = (h zero (omega arith), small-tab n (λ i. f (suc i)) (λ i l. h (suc i) (omega arith)))
+pub below-tab : (k n : ℕ) (f : ℕ → ℤ) → ((i : ℕ) → i < n → natAbs (f i) < 10 ^ k) → Below k (tab n n (pos 0) f)
+unfolding tab Below
+below-tab k zero f h = tt
+below-tab k (suc n) f h = (h zero (omega arith), below-tab k n (λ i. f (suc i)) (λ i l. h (suc i) (omega arith)))
 
 -- ---- a list that is read
 
@@ -79,7 +79,7 @@ pub record ListWas (key l : List ℕ) (m n : ℕ) (row : List ℤ) : Type 0 wher
   pub live : n ≤ m → placed m n row ≡ row
 
 no-numbers : showList [] ≡ []
-unfolding showList joined
+unfolding showAll joined
 no-numbers = refl
 
 module _ (key l : List ℕ) (m : ℕ) (h : m ≤ placesMax) where
@@ -132,7 +132,7 @@ module _ {F : Type 0} (odd : F) where
 
   pub count-line-back : (out : F) (key : List ℕ) (most m : ℕ) → m < 10 ^ digitsMax
       → countLine odd out key most (key ++ showMagnitude digitsMax m) ≡ refuse (ltb most m) out (Got.got m)
-  unfolding countLine counted countOf inCount showNumber
+  unfolding countLine counted countOf inCount showSigned
   count-line-back out key most m h =
       let e : readNumber (showMagnitude digitsMax m) ≡ Number.Is (pos m) = number-back (pos m) h in
       rw (body-own key (showMagnitude digitsMax m), e) (go (ltb most m))

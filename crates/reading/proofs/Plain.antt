@@ -8,7 +8,7 @@ use lib.ListN.{length}
 use lib.Dec.{eqb}
 use borrow.Author.Tests.{eqb-false, ne-eqb}
 use Rattle.digits.specs.Bytes.{lineFeed}
-use Rattle.text.specs.Cut.{Cut, fresh, feed, feeds, endEach}
+use Rattle.text.specs.Cut.{Cut, fresh, feed, feeds, placeOf, endEach}
 use Rattle.text.proofs.Cuts.{feed-sep, feed-held, feeds-none, feeds-cons}
 use Rattle.text.proofs.Pieces.{pieces, rest, feeds-append}
 use Rattle.reading.specs.Lines.{bytes}
@@ -17,7 +17,7 @@ use Rattle.reading.specs.Refused.{Plain, AllPlain}
 
 plain-more : (l : List ℕ) (b : ℕ) → (b ≡ lineFeed → ⊥) → lineLength l ≡ length l
     → lineLength (l ++ (b ∷ [])) ≡ length (l ++ (b ∷ []))
-unfolding lineLength
+unfolding placeOf
 plain-more [] b n e = rw (ne-eqb b lineFeed n)
 plain-more (x ∷ l) b n e = go (eqb x lineFeed) e (plain-more l b n)
   where
@@ -48,7 +48,7 @@ PlainCut c = AllPlain (c .st) × Plain (c .held)
 
 plain-fed : (c : Cut (List (List ℕ))) (b : ℕ) (ends : Bool) → eqb b lineFeed ≡ ends → PlainCut c
     → PlainCut (fed c b ends)
-unfolding lineLength
+unfolding placeOf
 plain-fed c b true e p = (all-more (c .st) (c .held) (p .0) (p .1), record { all = refl })
 plain-fed c b false e p = (p .0, record { all = plain-more (c .held) b (eqb-false b lineFeed e) (p .1 .all) })
 
@@ -59,7 +59,7 @@ plain-from (b ∷ t) c p = plain-from t (feed next lineFeed c b) (plain-fed c b 
 
 module _ (t : List ℕ) where
   pub plain-cut : AllPlain (pieces lineFeed t) × Plain (rest lineFeed t)
-  unfolding pieces rest lineLength
+  unfolding pieces rest placeOf
   plain-cut = plain-from t (fresh []) (tt, record { all = refl })
 
   pub plain-parts : (before : List (List ℕ)) (l : List ℕ) (after : List (List ℕ))
@@ -74,7 +74,7 @@ module _ {S : Type 0} (step : S → List ℕ → S) where
 
   pub fed-plain : (l h : List ℕ) (s : S) → lineLength l ≡ length l
       → feeds step lineFeed (holding s h) l ≡ holding s (h ++ l)
-  unfolding lineLength
+  unfolding placeOf
   fed-plain [] h s e = feeds-none step lineFeed (holding s h) ∙ ap (holding s) (sym (append-nil h))
   fed-plain (b ∷ l) h s e = go (eqb b lineFeed) refl e (fed-plain l (h ++ (b ∷ [])) s)
     where

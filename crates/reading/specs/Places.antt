@@ -1,12 +1,12 @@
 -- A line where it stands in the text.
-use Prim.Native.Nat.{ℕ, suc, _+_, _-_, _≤_}
+use Prim.Native.Nat.{ℕ, _+_, _-_, _≤_}
 use mathlib.Core.Path.{_≡_}
-use mathlib.Core.List.{List, [], _∷_}
+use mathlib.Core.List.{List}
 use mathlib.Core.Bool.{cond}
 use lib.ListN.{length, take, drop}
-use lib.Dec.{eqb, ltb}
+use lib.Dec.{ltb}
 use Rattle.digits.specs.Bytes.{lineFeed}
-use Rattle.text.specs.Cut.{fresh, feeds}
+use Rattle.text.specs.Cut.{placeOf, fresh, feeds}
 use Rattle.reading.specs.Got.{Got}
 use Rattle.reading.specs.Lines.{Form, State, Answer, step, endedCut}
 
@@ -15,9 +15,8 @@ abbrev pub part : List ℕ → ℕ → ℕ → List ℕ
 part t a e = take (e - a) (drop a t)
 
 -- how many bytes stand before the first LF
-unfoldable pub lineLength : List ℕ → ℕ
-lineLength [] = 0
-lineLength (b ∷ bs) = cond (eqb b lineFeed) 0 (suc (lineLength bs))
+abbrev pub lineLength : List ℕ → ℕ
+lineLength bs = placeOf lineFeed bs
 
 -- where the line that begins at a ends: the place of the next LF, or the text's length
 unfoldable pub lineEnd : List ℕ → ℕ → ℕ

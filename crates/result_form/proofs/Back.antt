@@ -81,6 +81,6 @@ unfolding Above
 plain r ResultLine.Number = count-plain jobKey (omega arith) (r .number)
 plain r ResultLine.Verdict = verdict-above (r .verdict)
 plain r ResultLine.Steps = count-plain stepsKey (omega arith) (r .steps)
-plain r ResultLine.Lo = list-plain loKey (omega arith) (placed (r .n) (r .n) (r .lo))
-plain r ResultLine.Hi = list-plain hiKey (omega arith) (placed (r .n) (r .n) (r .hi))
+plain r ResultLine.Lo = list-plain loKey (omega arith) digitsMax (placed (r .n) (r .n) (r .lo))
+plain r ResultLine.Hi = list-plain hiKey (omega arith) digitsMax (placed (r .n) (r .n) (r .hi))
 plain r ResultLine.End = tt

@@ -57,9 +57,9 @@ result-width r =
       count-line-short jobKey (r .number),
       word-short (r .verdict),
       count-line-short stepsKey (r .steps),
-      list-line-short loKey (placed (r .n) (r .n) (r .lo)),
+      list-line-short digitsMax loKey (placed (r .n) (r .n) (r .lo)),
       length-tab (pos 0) (r .n) (r .n) (λ i. getD (r .lo) i (pos 0)),
-      list-line-short hiKey (placed (r .n) (r .n) (r .hi)),
+      list-line-short digitsMax hiKey (placed (r .n) (r .n) (r .hi)),
       length-tab (pos 0) (r .n) (r .n) (λ i. getD (r .hi) i (pos 0)),
     ))
 

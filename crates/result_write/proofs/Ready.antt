@@ -4,6 +4,7 @@ use native.Mathlib.Omega.{arith}
 use mathlib.Core.Path.{_≡_}
 use lib.ListN.{length}
 use Rattle.sizes.specs.Sizes.{nMax, textMax, endMax}
+use Rattle.digits.specs.Number.{digitsMax}
 use Rattle.jobs.specs.CheckResult.{checkResult}
 use Rattle.jobs.proofs.RangeLaws.{all-within}
 use Rattle.jobs.proofs.CheckResultLaws.{Sound, sound}
@@ -12,7 +13,7 @@ use Rattle.jobs.specs.declared.ResultLine.{ResultLine}
 use Rattle.faults.specs.declared.Status.{Status}
 use Rattle.writing.specs.Wrote
 use Rattle.writing.proofs.Lines.{end-length, end-none}
-use Rattle.lines.proofs.Checks.{within-small}
+use Rattle.lines.proofs.Checks.{within-below}
 use Rattle.result_form.specs.ResultShows.{line}
 use Rattle.result_form.proofs.Trips.{result-short}
 use Rattle.result_write.specs.Ready.{Ready}
@@ -20,8 +21,8 @@ use Rattle.result_write.specs.Ready.{Ready}
 ready : (r : Result) → Sound r → Ready r
 ready r s = record {
   few = s .few;
-  low = within-small (r .n) (r .lo) endMax (omega arith) (all-within (r .lo) (r .n) endMax (s .low));
-  high = within-small (r .n) (r .hi) endMax (omega arith) (all-within (r .hi) (r .n) endMax (s .high));
+  low = within-below (r .n) (r .lo) digitsMax endMax (omega arith) (all-within (r .lo) (r .n) endMax (s .low));
+  high = within-below (r .n) (r .hi) digitsMax endMax (omega arith) (all-within (r .hi) (r .n) endMax (s .high));
 }
 
 pub ready-done : (r : Result) → checkResult r ≡ Status.Done → Ready r

@@ -11,6 +11,7 @@ ghost use Rattle.faults.specs.Answer.{Leaves};
 ghost use Rattle.lines.specs.Texts.{verdictText};
 ghost use Rattle.result_form.specs.ResultShows.{showResult};
 ghost use Rattle.result_write.specs.Ready.{Ready};
+use digits::DIGITS;
 use faults::Fault;
 use faults::Status;
 use faults::Written;
@@ -46,8 +47,8 @@ fn put_result(buf: &mut [u8], r: Result) -> usize
     let a = put_count_line(buf, 0, b"job=", r.number);
     let b = put_verdict(buf, a, v);
     let c = put_count_line(buf, b, b"steps=", r.steps);
-    let d = put_row_line(buf, c, b"lo=", lo, n);
-    put_row_line(buf, d, b"hi=", hi, n)
+    let d = put_row_line(buf, c, b"lo=", lo, n, DIGITS);
+    put_row_line(buf, d, b"hi=", hi, n, DIGITS)
 }
 
 // The same writer on a buffer of one byte measures the text. It need not where the room is that of any text.

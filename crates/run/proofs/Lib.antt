@@ -1,11 +1,2 @@
-pub mod Live
-pub mod Parts
-pub mod Image
-pub mod Keep
-pub mod Pass
 pub mod Turns
 pub mod JobLaws
-pub mod Newton
-pub mod Hold
-pub mod Decisions
-pub mod Exactly

@@ -12,16 +12,16 @@ use Rattle.intervals.proofs.Places.{side-made}
 use Rattle.systems.specs.Ranges.{BoxIn}
 use Rattle.jobs.specs.declared.Equation.{Equation}
 use Rattle.jobs.specs.declared.Verdict.{Verdict}
-use Rattle.run.specs.declared.Move.{Move}
-use Rattle.run.specs.declared.Decision.{Decision}
+use Rattle.step.specs.declared.Move.{Move}
+use Rattle.step.specs.declared.Decision.{Decision}
+use Rattle.step.specs.Step.{imageOf, imageBox}
+use Rattle.step.specs.Decide.{decideOf}
+use Rattle.step.specs.Ranges.{StepIn}
+use Rattle.step.proofs.Imaged.{image-in}
+use Rattle.step.proofs.Keep.{next-in}
+use Rattle.step.proofs.Decisions.{step-is}
 use Rattle.run.specs.declared.Outcome.{Outcome}
-use Rattle.run.specs.Step.{imageOf}
-use Rattle.run.specs.Decide.{decideOf}
-use Rattle.run.specs.Run.{outcome, settle, imageBox, runOf}
-use Rattle.run.specs.Ranges.{StepIn}
-use Rattle.run.proofs.Image.{image-in}
-use Rattle.run.proofs.Keep.{next-in}
-use Rattle.run.proofs.Decisions.{step-is}
+use Rattle.run.specs.Run.{outcome, settle, runOf}
 
 module _ (n : ℕ) (q : ℕ → Equation) (C : ℕ → ℕ → ℤ) where
   -- the run after `done` of `allowance` steps, at the decision of the next one

@@ -1,11 +1,6 @@
 -- Document 01, the run of a job: its values are checked first, and an accepted job answers what its steps give.
 use mathlib.Core.List.{List}
 use Prim.Native.Nat.{ℕ}
-use lib.IntN.{ℤ, pos}
-use Rattle.sizes.specs.Sizes.{nMax}
-use Rattle.lists.specs.Loops.{tab}
-use Rattle.intervals.specs.Places.{numberAt, sideAt, vectorOf}
-use Rattle.jobs.specs.Places.{rowAt}
 use Rattle.jobs.specs.Checks.{checkJob}
 use Rattle.systems.specs.Kinds.{equationOf}
 use Rattle.jobs.specs.Zero.{noResult}
@@ -13,31 +8,18 @@ use Rattle.intervals.specs.declared.Interval.{Interval}
 use Rattle.jobs.specs.declared.Job.{Job}
 use Rattle.jobs.specs.declared.Result.{Result}
 use Rattle.faults.specs.declared.Status.{Status}
+use Rattle.step.specs.Values.{lowEnds, highEnds, startOf, inverseOf}
 use Rattle.run.specs.declared.Outcome.{Outcome}
 use Rattle.run.specs.declared.Answer.{Answer}
 use Rattle.run.specs.Run.{runOf}
 
--- "a starting box": the side of unknown k, and all of them
-abbrev pub startSide : Job → ℕ → Interval
-startSide j k = record { lo = numberAt (j .ends .lo) k; hi = numberAt (j .ends .hi) k }
+-- the run of a job from a box on, with an allowance
+abbrev pub runFrom : Job → List Interval → ℕ → Outcome
+runFrom j x allowance = runOf (j .head .n) (equationOf j) (inverseOf j) allowance 0 x
 
-unfoldable pub startOf : Job → List Interval
-startOf j = vectorOf (j .head .n) (startSide j)
-
--- "a proposed inverse"
-abbrev pub inverseOf : Job → ℕ → ℕ → ℤ
-inverseOf j i = numberAt (rowAt (j .inv) i)
-
--- "and a step allowance"
+-- "a starting box, .. and a step allowance": its own
 unfoldable pub outcomeOf : Job → Outcome
-outcomeOf j = runOf (j .head .n) (equationOf j) (inverseOf j) (j .steps) 0 (startOf j)
-
--- the ends of a box; "every result leave[s] them zero", the places past n
-abbrev pub lowEnds : ℕ → List Interval → List ℤ
-lowEnds n x = tab nMax n (pos 0) (λ k. sideAt x k .lo)
-
-abbrev pub highEnds : ℕ → List Interval → List ℤ
-highEnds n x = tab nMax n (pos 0) (λ k. sideAt x k .hi)
+outcomeOf j = runFrom j (startOf j) (j .steps)
 
 -- "The answer is a box, a verdict and the number of steps done."
 unfoldable pub resultOf : Job → Outcome → Result

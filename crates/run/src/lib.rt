@@ -1,7 +1,4 @@
 // The run of a job: Krawczyk steps until one decides or the allowance is used up.
-pub mod step;
-pub mod values;
-
 use faults::Status;
 use intervals::Interval;
 use jobs::Equation;
@@ -10,6 +7,8 @@ use jobs::Result;
 use jobs::Verdict;
 use jobs::zero::no_result;
 use sizes::N;
+use step::Move;
+use step::values;
 ghost use mathlib.Core.Path.{_≡_};
 ghost use Prim.Native.Nat.{_≤_};
 ghost use Rattle.sizes.specs.Sizes.{nMax};
@@ -17,23 +16,10 @@ ghost use Rattle.intervals.specs.Places.{entryAt, sideAt};
 ghost use Rattle.jobs.specs.Places.{equationAt};
 ghost use Rattle.jobs.specs.Checks.{checkJob};
 ghost use Rattle.faults.specs.declared.Status.{Status};
+ghost use Rattle.systems.specs.Ranges.{BoxIn};
+ghost use Rattle.step.specs.Ranges.{StepIn};
 ghost use Rattle.run.specs.Run.{outcome, runOf};
-ghost use Rattle.run.specs.Job.{outcomeOf, resultOf, runJob};
-ghost use Rattle.run.specs.Ranges.{StepIn};
-
-// What a step decides: a verdict, or that X becomes the cut and the next step begins.
-pub enum Move {
-    None,
-    Unique,
-    Stalled,
-    Next,
-}
-
-// The box stands beside the enum, which holds no array.
-pub struct Decision {
-    pub what: Move,
-    pub sides: [Interval; N],
-}
+ghost use Rattle.run.specs.Job.{runFrom, outcomeOf, resultOf, runJob};
 
 pub struct Outcome {
     pub verdict: Verdict,
@@ -105,19 +91,49 @@ fn bounded(n: usize) -> usize
     if n < N { n } else { N }
 }
 
-// The run of a job whose check found nothing.
-pub fn accepted(j: Job) -> Result
+// At most `allowance` steps of a job whose check found nothing, from any box in range on.
+pub fn run_from(j: Job, x: [Interval; N], allowance: u64) -> Outcome
     requires { ⌜ checkJob j ≡ Status.Done ⌝ }
-    ensures { λ r. ⌜ r ≡ resultOf j (outcomeOf j) ⌝ }
+    requires { ⌜ BoxIn (j .head .n) (sideAt x) ⌝ }
+    ensures { λ r. ⌜ r ≡ runFrom j x allowance ⌝ }
 {
     let n = j.head.n;
     let inv = j.inv;
     let eqs = systems::equations(j);
     let c = values::matrix(inv, n);
-    let x = values::start_box(j);
     let few = bounded(n);
-    let o = run_steps(eqs, c, x, few, j.steps);
-    values::result_of(j, o)
+    run_steps(eqs, c, x, few, allowance)
+}
+
+pub fn result_of(j: Job, o: Outcome) -> Result
+    requires { ⌜ j .head .n ≤ nMax ⌝ }
+    ensures { λ r. ⌜ r ≡ resultOf j o ⌝ }
+{
+    let n = j.head.n;
+    let x = o.sides;
+    let ends = values::ends_of(x, n);
+    let lo = ends.lo;
+    let hi = ends.hi;
+    let verdict = o.verdict;
+    Result {
+        number: j.head.number,
+        verdict: verdict,
+        steps: o.steps,
+        n: n,
+        lo: lo,
+        hi: hi,
+    }
+}
+
+// The run of a job whose check found nothing.
+pub fn accepted(j: Job) -> Result
+    requires { ⌜ checkJob j ≡ Status.Done ⌝ }
+    ensures { λ r. ⌜ r ≡ resultOf j (outcomeOf j) ⌝ }
+{
+    let ends = j.ends;
+    let x = values::box_of(ends, j.head.n);
+    let o = run_from(j, x, j.steps);
+    result_of(j, o)
 }
 
 // The run of a job. Every value is taken: its values are checked first, in the order of its text's lines.

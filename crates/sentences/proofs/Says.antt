@@ -4,6 +4,7 @@ use native.Mathlib.Omega.{arith}
 use mathlib.Core.List.{List, [], _++_}
 use lib.ListN.{length}
 use lib.IntN.{ℤ}
+use Rattle.digits.specs.Number.{digitsMax}
 use Rattle.digits.specs.Show.{showMagnitude, showNumber}
 use Rattle.digits.proofs.Show.{show-short, number-short}
 use Rattle.writing.specs.Wrote.{Wrote}
@@ -34,4 +35,4 @@ says-count m w = says-most countDigits (show-short countDigits m) (says-words w)
 
 pub says-number : (v : ℤ) {x y : List ℕ} {at r : ℕ} → Wrote x y at r (showNumber v)
     → Says valueMost x y at r (showNumber v)
-says-number v w = says-most valueMost (number-short v) (says-words w)
+says-number v w = says-most valueMost (number-short digitsMax v) (says-words w)

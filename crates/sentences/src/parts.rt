@@ -1,4 +1,5 @@
 // The parts of a sentence.
+use digits::DIGITS;
 use jobs::ranges::within;
 use sizes::NUMBER;
 use slips::Field;
@@ -68,7 +69,7 @@ pub fn put_value(out: &mut [u8], at: usize, v: i64) -> usize
     ensures { λ r. ⌜ Says valueMost (now (out .entry)) (now (out .exit)) at r (valueWords v) ⌝ }
 {
     if within(v, NUMBER as i64) {
-        return put_number(out, at, v);
+        return put_number(out, at, v, DIGITS);
     }
     at
 }

@@ -2,8 +2,8 @@
 -- of a term, then the sums of D, B and E.
 use Prim.Native.Nat.{_+_, _*_, _≤_}
 use lib.Dec.{lit≤}
-use Rattle.sizes.specs.Sizes.{mark, nMax, entryMax}
-use Rattle.sizes.specs.Bounds.{termMax, valueMax, slopeMax, zMax, bMax, upMax}
+use Rattle.sizes.specs.Sizes.{mark, nMax, entryMax, imageMax}
+use Rattle.sizes.specs.Bounds.{termMax, valueMax, slopeMax, zMax, bMax, kMax, upMax}
 
 pub term-room : mark * termMax ≤ upMax
 term-room = lit≤ tt
@@ -16,3 +16,7 @@ b-room = lit≤ tt
 
 pub e-room : nMax * (bMax * zMax) ≤ upMax
 e-room = lit≤ tt
+
+-- P7: an image of the step can be handed in again
+pub image-room : kMax ≤ imageMax
+image-room = lit≤ tt

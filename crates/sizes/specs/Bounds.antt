@@ -38,6 +38,10 @@ bMax = mark + nMax * (64 * slopeMax)
 abbrev pub eMax : ℕ
 eMax = nMax * (8 * bMax)
 
+-- K = m - D + E
+abbrev pub kMax : ℕ
+kMax = (endMax + dMax) + eMax
+
 -- what can be rounded up: with one short of a mark added it still fits a signed 64-bit number
 abbrev pub upMax : ℕ
 upMax = 2 ^ 62

@@ -1,5 +1,5 @@
--- The sizes of document 01, "Numbers and sizes", as the contracts cite them.
-use Prim.Native.Nat.{ℕ}
+-- The sizes of document 01, "Numbers and sizes", and of document 02's requests, as the contracts cite them.
+use Prim.Native.Nat.{ℕ, _^_}
 
 -- "one mark is 1/65,536"
 abbrev pub mark : ℕ
@@ -28,6 +28,10 @@ numberMax = 999999999
 -- "Box ends: -262,144 to 262,144 (4.0 either way)"
 abbrev pub endMax : ℕ
 endMax = 262144
+
+-- P7: "The image on hand may be any two ends in each coordinate from -2^46 to 2^46."
+abbrev pub imageMax : ℕ
+imageMax = 2 ^ 46
 
 -- "Coefficients, matrix entries, right sides and entries of the inverse: -4,194,304 to 4,194,304 (64.0)"
 abbrev pub entryMax : ℕ

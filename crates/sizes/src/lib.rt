@@ -15,6 +15,8 @@ pub const STEPS: u64 = 1000;
 pub const NUMBER: u64 = 999999999;
 // A box end, either way.
 pub const END: i64 = 262144;
+// An end of an image that is handed in, either way: 2 to the power 46.
+pub const IMAGE: i64 = 70368744177664;
 // A coefficient, a matrix entry, a right side or an entry of the inverse, either way.
 pub const ENTRY: i64 = 4194304;
 // The total degree of a term.

@@ -13,6 +13,7 @@ use Rattle.sizes.specs.Sizes.{nMax, termsMax, entryMax}
 use Rattle.lists.specs.Loops.{both, allB, tab}
 use Rattle.lists.proofs.Tab.{getD-tab, tab-none, tab-more, tab-cong}
 use Rattle.digits.specs.Bytes.{comma, minusSign, digit0, digit9}
+use Rattle.digits.specs.Number.{digitsMax}
 use Rattle.digits.specs.Show.{showNumber}
 use Rattle.digits.proofs.ReadBack.{number-back}
 use Rattle.text.specs.Keys.{startsWith}
@@ -48,7 +49,8 @@ module _ (sep : ℕ) (h : sep < minusSign) where
   term-above : (n : ℕ) (t : Term) → Above sep (showTerm n t)
   unfolding showTerm showExponents Above
   term-above n t =
-      above-append sep (showNumber (t .coef)) _ (number-above sep h (t .coef)) (omega arith, digits-above n (expOf t))
+      above-append sep (showNumber (t .coef)) _ (number-above sep h digitsMax (t .coef))
+      (omega arith, digits-above n (expOf t))
 
 texts-above : (sep : ℕ) (m : ℕ) (f : ℕ → List ℕ) → ((k : ℕ) → Above sep (f k)) → AllAbove sep (tab m m [] f)
 unfolding tab AllAbove

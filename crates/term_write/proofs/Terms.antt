@@ -43,7 +43,7 @@ pub term-short : (n : ℕ) (t : Term) → length (showTerm n t) ≤ digitsMax + 
 unfolding showTerm
 term-short n t =
     rw (length-append (showNumber (t .coef)) (colon ∷ showExponents n t))
-    (omega (arith, number-short (t .coef), exponents-long n t))
+    (omega (arith, number-short digitsMax (t .coef), exponents-long n t))
 
 pub terms-short : (n : ℕ) (q : Equation) (m : ℕ) → n ≤ nMax → length (joined (termTexts n q m)) ≤ termWidth * m
 unfolding termTexts

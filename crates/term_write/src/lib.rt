@@ -4,6 +4,7 @@ ghost use Rattle.text.specs.Lists.{joined};
 ghost use Rattle.writing.specs.Wrote.{placeMax, Wrote, line};
 ghost use Rattle.term_write.specs.ShowTerms.{showExponents, showTerm, termTexts, equationText};
 ghost use Rattle.term_write.specs.ShowTerms.{commaBefore, ExponentsFit, TermFits, EquationFits};
+use digits::DIGITS;
 use jobs::Equation;
 use jobs::Term;
 use writing::put_byte;
@@ -30,7 +31,7 @@ fn put_term(buf: &mut [u8], at: usize, t: Term, n: usize) -> usize
     requires { ⌜ TermFits at n t ⌝ }
     ensures { λ r. ⌜ Wrote (now (buf .entry)) (now (buf .exit)) at r (showTerm n t) ⌝ }
 {
-    let a = put_number(buf, at, t.coef);
+    let a = put_number(buf, at, t.coef, DIGITS);
     let b = put_byte(buf, a, b':');
     put_exponents(buf, b, t, n)
 }

@@ -9,7 +9,7 @@ use lib.IntN.{ℤ, pos, negsuc}
 use borrow.Author.Tests.{lt-ltb}
 use Rattle.digits.proofs.Cases.{either}
 use Rattle.digits.specs.Number.{digitsMax, readNumber}
-use Rattle.digits.specs.Show.{showMagnitude, showNumber}
+use Rattle.digits.specs.Show.{showMagnitude, showSigned}
 use Rattle.digits.proofs.WriteBack.{number-was}
 use Rattle.digits.specs.declared.Number.{Number}
 use Rattle.text.specs.declared.Count.{Count}
@@ -46,7 +46,7 @@ no-number b v e n = let f = rw n at e in let z : _≡_ {A = ℕ} 0 1 = cc in ome
 
 pub count-was : (most : ℕ) (key l : List ℕ) (m : ℕ) → countOf most (readNumber (bodyOf key l)) ≡ Count.Is m
     → key ++ showMagnitude digitsMax m ≡ l
-unfolding showNumber
+unfolding showSigned
 count-was most key l m e =
     let n = number-of most (readNumber (bodyOf key l)) m e in
     ap (λ (x : List ℕ). key ++ x) (number-was (bodyOf key l) (pos m) n)

@@ -1,4 +1,5 @@
 pub mod Cuts
+pub mod Ends
 pub mod Keys
 pub mod Pieces
 pub mod Counts

@@ -9,14 +9,14 @@ use lib.ListN.{length, drop, take, replicate, length-append}
 use lib.Seq.{set-append-seam}
 use lib.IntN.{ℤ, pos}
 use Rattle.digits.specs.Bytes.{comma, minusSign}
-use Rattle.digits.specs.Number.{readNumber}
-use Rattle.digits.specs.Show.{showNumber}
+use Rattle.digits.specs.Number.{digitsMax, readNumber}
+use Rattle.digits.specs.Show.{showSigned, showNumber}
 use Rattle.digits.proofs.ReadBack.{number-back}
 use Rattle.digits.proofs.WriteBack.{number-was}
 use Rattle.digits.specs.declared.Number.{Number}
 use Rattle.text.specs.declared.Numbers.{Numbers}
 use Rattle.text.specs.Lists.{placesMax, noNumbers, putNumber, addRead, addField}
-use Rattle.text.specs.Lists.{lastField, readList, joined, showList, Small}
+use Rattle.text.specs.Lists.{lastField, readList, joined, showAll, showList, Below, Small}
 use Rattle.text.proofs.Pieces.{Above, AllAbove, above-append, commas-above, number-above}
 use Rattle.text.proofs.Pieces.{fed-joined, fields, fields-joined, fields-fold}
 
@@ -69,31 +69,31 @@ from-none vs = put-count vs noNumbers ∙ omega arith
 -- ---- a list that is written
 
 fold-shown : (a : Numbers) (vs : List ℤ) → Small vs → foldl addField a (map showNumber vs) ≡ foldl putNumber a vs
-unfolding Small addField addRead
+unfolding Below addField addRead
 fold-shown a [] s = refl
 fold-shown a (v ∷ vs) s =
     ap (λ (x : Numbers). foldl addField x (map showNumber vs)) (ap (addRead a) (number-back v (s .0)))
     ∙ fold-shown (putNumber a v) vs (s .1)
 
-module _ (sep : ℕ) (h : sep < minusSign) where
-  all-above : (vs : List ℤ) → AllAbove sep (map showNumber vs)
+module _ (sep : ℕ) (h : sep < minusSign) (k : ℕ) where
+  all-above : (vs : List ℤ) → AllAbove sep (map (showSigned k) vs)
   unfolding AllAbove
   all-above [] = tt
-  all-above (v ∷ vs) = (number-above sep h v, all-above vs)
+  all-above (v ∷ vs) = (number-above sep h k v, all-above vs)
 
-pub list-above : (sep : ℕ) → sep < comma → (vs : List ℤ) → Above sep (showList vs)
-unfolding showList joined AllAbove Above
-list-above sep h [] = tt
-list-above sep h (v ∷ vs) =
-    above-append sep (showNumber v) _ (number-above sep (omega arith) v)
-    (commas-above sep h (map showNumber vs) (all-above sep (omega arith) vs))
+pub list-above : (sep : ℕ) → sep < comma → (k : ℕ) (vs : List ℤ) → Above sep (showAll k vs)
+unfolding showAll joined AllAbove Above
+list-above sep h k [] = tt
+list-above sep h k (v ∷ vs) =
+    above-append sep (showSigned k v) _ (number-above sep (omega arith) k v)
+    (commas-above sep h (map (showSigned k) vs) (all-above sep (omega arith) k vs))
 
 list-put : (vs : List ℤ) → 0 < length vs → Small vs → readList (showList vs) ≡ foldl putNumber noNumbers vs
-unfolding readList lastField showList
+unfolding readList lastField showAll
 list-put [] n s = absurd (omega arith)
 list-put (v ∷ vs) n s =
-    fed-joined addField noNumbers (showNumber v) (map showNumber vs) (number-above comma (omega arith) v)
-    (all-above comma (omega arith) vs)
+    fed-joined addField noNumbers (showNumber v) (map showNumber vs) (number-above comma (omega arith) digitsMax v)
+    (all-above comma (omega arith) digitsMax vs)
     ∙ fold-shown noNumbers (v ∷ vs) s
 
 pub list-back : (vs : List ℤ) → 0 < length vs → Small vs → length vs ≤ placesMax
@@ -148,7 +148,7 @@ pub record ListIs (f : List ℕ) : Type 0 where
   pub vals : length vs ≤ placesMax → readList f .vals ≡ vs ++ drop (length vs) zeros
 
 pub list-was : (f : List ℕ) → readList f .ok ≡ true → ListIs f
-unfolding readList lastField showList
+unfolding readList lastField showAll
 list-was f e =
     let whole = fields-fold addField noNumbers f in
     let t = shown (fields f) noNumbers (ap (λ (x : Numbers). x .ok) (sym whole) ∙ e) in

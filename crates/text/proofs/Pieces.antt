@@ -8,8 +8,7 @@ use mathlib.Core.Bool.{Bool, true, false, cond}
 use lib.Dec.{ltb}
 use lib.IntN.{ℤ, pos, negsuc}
 use Rattle.digits.specs.Bytes.{comma, minusSign, digit0}
-use Rattle.digits.specs.Number.{digitsMax}
-use Rattle.digits.specs.Show.{showMagnitude, showNumber}
+use Rattle.digits.specs.Show.{showMagnitude, showSigned}
 use Rattle.digits.proofs.Cases.{same-or}
 use Rattle.text.specs.Cut.{Cut, fresh, feed, feeds, endEach}
 use Rattle.text.specs.Lists.{afterCommas, joined}
@@ -44,10 +43,10 @@ module _ (sep : ℕ) (h : sep < minusSign) where
       (above-append sep (showMagnitude k (m / 10)) ((digit0 + m % 10) ∷ [])
       (magnitude-above k (m / 10)) (omega arith, tt))
 
-  pub number-above : (v : ℤ) → Above sep (showNumber v)
-  unfolding showNumber Above
-  number-above (pos m) = magnitude-above digitsMax m
-  number-above (negsuc m) = (h, magnitude-above digitsMax (suc m))
+  pub number-above : (k : ℕ) (v : ℤ) → Above sep (showSigned k v)
+  unfolding showSigned Above
+  number-above k (pos m) = magnitude-above k m
+  number-above k (negsuc m) = (h, magnitude-above k (suc m))
 
 pub commas-above : (sep : ℕ) → sep < comma → (xs : List (List ℕ)) → AllAbove sep xs → Above sep (afterCommas xs)
 unfolding AllAbove afterCommas Above

@@ -1,5 +1,5 @@
 -- A text taken byte by byte and cut at each separator: lines at LF, the fields of a list at the comma.
-use Prim.Native.Nat.{ℕ, _≤_, _<_}
+use Prim.Native.Nat.{ℕ, suc, _≤_, _<_}
 use mathlib.Core.List.{List, [], _∷_, _++_, foldl}
 use mathlib.Core.Bool.{cond}
 use mathlib.Core.Path.{_≡_}
@@ -23,6 +23,11 @@ feed step sep k b =
 -- all of a text
 unfoldable pub feeds : {S : Type 0} → (S → List ℕ → S) → ℕ → Cut S → List ℕ → Cut S
 feeds step sep k bs = foldl (feed step sep) k bs
+
+-- the place of the first separator; the length where there is none
+unfoldable pub placeOf : ℕ → List ℕ → ℕ
+placeOf sep [] = 0
+placeOf sep (b ∷ l) = cond (eqb b sep) 0 (suc (placeOf sep l))
 
 -- the piece that begins at a ends at e: the next separator stands there, or nothing
 pub record PieceEnd (s : List ℕ) (sep a e : ℕ) : Type 0 where

@@ -7,7 +7,7 @@ use lib.IntN.{ℤ, pos, natAbs}
 use Rattle.sizes.specs.Sizes.{nMax}
 use Rattle.digits.specs.Bytes.{comma}
 use Rattle.digits.specs.Number.{digitsMax, readNumber}
-use Rattle.digits.specs.Show.{showNumber}
+use Rattle.digits.specs.Show.{showSigned}
 use Rattle.digits.specs.declared.Number.{Number}
 use Rattle.text.specs.Cut.{Cut, fresh, feeds}
 use Rattle.text.specs.declared.Numbers.{Numbers}
@@ -50,10 +50,18 @@ unfoldable pub joined : List (List ℕ) → List ℕ
 joined [] = []
 joined (x ∷ xs) = x ++ afterCommas xs
 
-unfoldable pub showList : List ℤ → List ℕ
-showList vs = joined (map showNumber vs)
+-- numbers of at most k digits each, joined
+unfoldable pub showAll : ℕ → List ℤ → List ℕ
+showAll k vs = joined (map (showSigned k) vs)
 
--- each number has at most nine digits
-unfoldable pub Small : List ℤ → Type 0
-Small [] = Unit {0}
-Small (v ∷ vs) = (natAbs v < 10 ^ digitsMax) × Small vs
+-- each number has at most k digits
+unfoldable pub Below : ℕ → List ℤ → Type 0
+Below k [] = Unit {0}
+Below k (v ∷ vs) = (natAbs v < 10 ^ k) × Below k vs
+
+-- "1 to 9 digits": the lists of a text that is read
+abbrev pub showList : List ℤ → List ℕ
+showList = showAll digitsMax
+
+abbrev pub Small : List ℤ → Type 0
+Small = Below digitsMax

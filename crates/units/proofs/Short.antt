@@ -10,7 +10,7 @@ use Rattle.lists.proofs.Tab.{getD-tab, length-tab}
 use Rattle.reading.specs.NumberLines.{placed}
 use Rattle.text.specs.Lists.{Small}
 use Rattle.writing.specs.Wrote.{line}
-use Rattle.writing.proofs.Lists.{small-at}
+use Rattle.writing.proofs.Lists.{below-at}
 use Rattle.units.specs.Units.{decimalsMax, showUnits}
 use Rattle.units.specs.Show.{toWord, unknownMax, showEnds, unknownLine}
 use Rattle.units.proofs.Decimals.{size-short}
@@ -35,4 +35,4 @@ pub small-live : (xs : List ℤ) (n i : ℕ) → Small (placed n n xs) → i < n
     → natAbs (getD xs i (pos 0)) < 10 ^ digitsMax
 small-live xs n i s h =
     rw (getD-tab (pos 0) n n (λ k. getD xs k (pos 0)) (pos 0) i h (omega arith)) at
-    (small-at (placed n n xs) i s (omega (arith, length-tab (pos 0) n n (λ k. getD xs k (pos 0)))))
+    (below-at digitsMax (placed n n xs) i s (omega (arith, length-tab (pos 0) n n (λ k. getD xs k (pos 0)))))

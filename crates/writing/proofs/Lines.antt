@@ -10,7 +10,7 @@ use Rattle.digits.specs.Number.{digitsMax}
 use Rattle.digits.specs.Show.{showMagnitude}
 use Rattle.digits.proofs.Show.{show-short}
 use Rattle.text.specs.Cut.{endEach}
-use Rattle.text.specs.Lists.{showList}
+use Rattle.text.specs.Lists.{showAll}
 use Rattle.writing.specs.Wrote.{line}
 use Rattle.writing.proofs.Lists.{list-short}
 
@@ -22,12 +22,12 @@ count-line-short key m =
     rw (length-append (key ++ digits) (lineFeed ∷ []), length-append key digits)
     (omega (arith, show-short digitsMax m))
 
-pub list-line-short : (key : List ℕ) (xs : List ℤ)
-    → length (line (key ++ showList xs)) ≤ length key + (digitsMax + 2) * length xs + 1
+pub list-line-short : (k : ℕ) (key : List ℕ) (xs : List ℤ)
+    → length (line (key ++ showAll k xs)) ≤ length key + (k + 2) * length xs + 1
 unfolding line
-list-line-short key xs =
-    rw (length-append (key ++ showList xs) (lineFeed ∷ []), length-append key (showList xs))
-    (omega (arith, list-short xs))
+list-line-short k key xs =
+    rw (length-append (key ++ showAll k xs) (lineFeed ∷ []), length-append key (showAll k xs))
+    (omega (arith, list-short k xs))
 
 pub end-length : (l : List ℕ) (ls : List (List ℕ))
     → length (endEach lineFeed (l ∷ ls)) ≡ length (line l) + length (endEach lineFeed ls)

@@ -9,18 +9,17 @@ use lib.Seq.{drop-cons}
 use lib.IntN.{ℤ, pos, natAbs}
 use Rattle.lists.specs.Loops.{tab}
 use Rattle.digits.specs.Bytes.{comma}
-use Rattle.digits.specs.Number.{digitsMax}
-use Rattle.digits.specs.Show.{showNumber}
+use Rattle.digits.specs.Show.{showSigned}
 use Rattle.digits.proofs.Show.{number-short}
-use Rattle.text.specs.Lists.{afterCommas, joined, showList, Small}
+use Rattle.text.specs.Lists.{afterCommas, joined, showAll, Below}
 use Rattle.reading.specs.NumberLines.{placed}
 use Rattle.writing.specs.Wrote.{showMore}
 
-pub small-at : (xs : List ℤ) (i : ℕ) → Small xs → i < length xs → natAbs (getD xs i (pos 0)) < 10 ^ digitsMax
-unfolding Small
-small-at [] i s h = absurd (omega arith)
-small-at (x ∷ xs) zero s h = s .0
-small-at (x ∷ xs) (suc i) s h = small-at xs i (s .1) (omega arith)
+pub below-at : (k : ℕ) (xs : List ℤ) (i : ℕ) → Below k xs → i < length xs → natAbs (getD xs i (pos 0)) < 10 ^ k
+unfolding Below
+below-at k [] i s h = absurd (omega arith)
+below-at k (x ∷ xs) zero s h = s .0
+below-at k (x ∷ xs) (suc i) s h = below-at k xs i (s .1) (omega arith)
 
 -- the first n numbers, as a slice has them
 pub taken-first : (n : ℕ) (xs : List ℤ) → n ≤ length xs → take n xs ≡ placed n n xs
@@ -29,37 +28,41 @@ taken-first zero xs h = refl
 taken-first (suc n) [] h = absurd (omega arith)
 taken-first (suc n) (x ∷ xs) h = ap (λ (l : List ℤ). x ∷ l) (taken-first n xs (omega arith))
 
--- one number more
-pub more-one : (xs : List ℤ) (i : ℕ) (done : List ℕ) → i < length xs
-    → done ++ showMore i xs ≡ ((done ++ (comma ∷ [])) ++ showNumber (getD xs i (pos 0))) ++ showMore (i + 1) xs
-unfolding showMore afterCommas
-more-one xs i done h = rw (drop-cons xs i (pos 0) h, add-one i, append-assoc (done ++ (comma ∷ [])), append-assoc done)
+module _ (k : ℕ) where
+  -- one number more
+  pub more-one : (xs : List ℤ) (i : ℕ) (done : List ℕ) → i < length xs
+      → done ++ showMore k i xs
+      ≡ ((done ++ (comma ∷ [])) ++ showSigned k (getD xs i (pos 0))) ++ showMore k (i + 1) xs
+  unfolding showMore afterCommas
+  more-one xs i done h =
+      rw (drop-cons xs i (pos 0) h, add-one i, append-assoc (done ++ (comma ∷ [])), append-assoc done)
 
-pub more-end : (xs : List ℤ) (i : ℕ) (done : List ℕ) → length xs ≤ i → done ++ showMore i xs ≡ done
-unfolding showMore afterCommas
-more-end xs i done h = rw (drop-of-length-le xs h) (append-nil done)
+  pub more-end : (xs : List ℤ) (i : ℕ) (done : List ℕ) → length xs ≤ i → done ++ showMore k i xs ≡ done
+  unfolding showMore afterCommas
+  more-end xs i done h = rw (drop-of-length-le xs h) (append-nil done)
 
-pub list-none : (xs : List ℤ) → length xs ≡ 0 → showList xs ≡ []
-unfolding showList joined
-list-none [] e = refl
-list-none (x ∷ xs) e = absurd (omega (arith, e))
+  pub list-none : (xs : List ℤ) → length xs ≡ 0 → showAll k xs ≡ []
+  unfolding showAll joined
+  list-none [] e = refl
+  list-none (x ∷ xs) e = absurd (omega (arith, e))
 
-pub list-some : (xs : List ℤ) → (length xs ≡ 0 → ⊥) → showList xs ≡ showNumber (getD xs 0 (pos 0)) ++ showMore 1 xs
-unfolding showList joined showMore
-list-some [] n = absurd (n refl)
-list-some (x ∷ xs) n = refl
+  pub list-some : (xs : List ℤ) → (length xs ≡ 0 → ⊥)
+      → showAll k xs ≡ showSigned k (getD xs 0 (pos 0)) ++ showMore k 1 xs
+  unfolding showAll joined showMore
+  list-some [] n = absurd (n refl)
+  list-some (x ∷ xs) n = refl
 
--- a comma, a minus and nine digits for each number
-after-short : (xs : List ℤ) → length (afterCommas (map showNumber xs)) ≤ (digitsMax + 2) * length xs
-unfolding afterCommas
-after-short [] = omega arith
-after-short (v ∷ vs) =
-    rw (length-append (showNumber v) (afterCommas (map showNumber vs)))
-    (omega (arith, number-short v, after-short vs))
+  -- a comma, a minus and k digits for each number
+  after-short : (xs : List ℤ) → length (afterCommas (map (showSigned k) xs)) ≤ (k + 2) * length xs
+  unfolding afterCommas
+  after-short [] = omega arith
+  after-short (v ∷ vs) =
+      rw (length-append (showSigned k v) (afterCommas (map (showSigned k) vs)))
+      (omega (arith, number-short k v, after-short vs))
 
-pub list-short : (xs : List ℤ) → length (showList xs) ≤ (digitsMax + 2) * length xs
-unfolding showList joined
-list-short [] = omega arith
-list-short (v ∷ vs) =
-    rw (length-append (showNumber v) (afterCommas (map showNumber vs)))
-    (omega (arith, number-short v, after-short vs))
+  pub list-short : (xs : List ℤ) → length (showAll k xs) ≤ (k + 2) * length xs
+  unfolding showAll joined
+  list-short [] = omega arith
+  list-short (v ∷ vs) =
+      rw (length-append (showSigned k v) (afterCommas (map (showSigned k) vs)))
+      (omega (arith, number-short k v, after-short vs))

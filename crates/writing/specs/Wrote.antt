@@ -7,9 +7,9 @@ use lib.Seq.{sets}
 use lib.IntN.{ℤ}
 use Rattle.sizes.specs.Sizes.{nMax}
 use Rattle.digits.specs.Bytes.{lineFeed}
-use Rattle.digits.specs.Number.{digitsMax}
-use Rattle.digits.specs.Show.{showNumber}
-use Rattle.text.specs.Lists.{afterCommas, Small}
+use Rattle.digits.specs.Number.{longMax}
+use Rattle.digits.specs.Show.{showSigned}
+use Rattle.text.specs.Lists.{afterCommas, Below}
 use Rattle.reading.specs.NumberLines.{placed}
 
 -- no text reaches this place, and a usize holds far more
@@ -21,16 +21,17 @@ pub record Wrote (old new : List ℕ) (at r : ℕ) (bs : List ℕ) : Type 0 wher
   pub next : r ≡ at + length bs
   pub text : new ≡ sets old at bs
 
--- the numbers from place i on, each after a comma
-unfoldable pub showMore : ℕ → List ℤ → List ℕ
-showMore i xs = afterCommas (map showNumber (drop i xs))
+-- the numbers from place i on, of at most k digits each, each after a comma
+unfoldable pub showMore : ℕ → ℕ → List ℤ → List ℕ
+showMore k i xs = afterCommas (map (showSigned k) (drop i xs))
 
 -- "Lines end in one LF"
 unfoldable pub line : List ℕ → List ℕ
 line l = l ++ (lineFeed ∷ [])
 
--- what the writer of a row relies on
-pub record RowFits (at : ℕ) (key : List ℕ) (row : List ℤ) (n : ℕ) : Type 0 where
+-- what the writer of a row of n numbers of at most k digits each relies on
+pub record RowFits (at : ℕ) (key : List ℕ) (row : List ℤ) (n k : ℕ) : Type 0 where
   pub few : n ≤ nMax
-  pub room : at + length key + (digitsMax + 2) * (1 + nMax) < placeMax
-  pub small : Small (placed n n row)
+  pub wide : k ≤ longMax
+  pub room : at + length key + (k + 2) * (1 + nMax) < placeMax
+  pub small : Below k (placed n n row)

@@ -5,11 +5,16 @@ ghost use mathlib.Core.List.{[], _∷_, _++_};
 ghost use Prim.Native.Nat.{_+_, _*_, _≤_, _<_, _^_};
 ghost use lib.ListN.{length};
 ghost use lib.IntN.{natAbs};
-ghost use Rattle.digits.specs.Number.{digitsMax};
-ghost use Rattle.digits.specs.Show.{showMagnitude, showNumber};
-ghost use Rattle.text.specs.Lists.{showList, Small};
+ghost use Rattle.faults.specs.declared.Status.{Status};
+ghost use Rattle.faults.specs.Answer.{Leaves};
+ghost use Rattle.digits.specs.Number.{digitsMax, longMax};
+ghost use Rattle.digits.specs.Show.{showMagnitude, showSigned};
+ghost use Rattle.text.specs.Lists.{showAll, Below};
 ghost use Rattle.reading.specs.NumberLines.{placed};
 ghost use Rattle.writing.specs.Wrote.{placeMax, Wrote, showMore, line, RowFits};
+use faults::Fault;
+use faults::Status;
+use faults::Written;
 use sizes::N;
 
 // One byte at its place, if there is one.
@@ -71,46 +76,46 @@ pub fn put_magnitude(buf: &mut [u8], at: usize, m: u64, k: usize) -> usize
     end
 }
 
-// A number of at most nine digits.
-pub fn put_number(buf: &mut [u8], at: usize, v: i64) -> usize
-    requires { ⌜ (at + digitsMax < placeMax) × (natAbs v < 10 ^ digitsMax) ⌝ }
-    ensures { λ r. ⌜ Wrote (now (buf .entry)) (now (buf .exit)) at r (showNumber v) ⌝ }
+// A number of at most k digits.
+pub fn put_number(buf: &mut [u8], at: usize, v: i64, k: usize) -> usize
+    requires { ⌜ (k ≤ longMax) × (at + k < placeMax) × (natAbs v < 10 ^ k) ⌝ }
+    ensures { λ r. ⌜ Wrote (now (buf .entry)) (now (buf .exit)) at r (showSigned k v) ⌝ }
 {
     let m = digits::abs(v);
     if v < 0 {
         let next = put_byte(buf, at, b'-');
-        return put_magnitude(buf, next, m, digits::DIGITS);
+        return put_magnitude(buf, next, m, k);
     }
-    put_magnitude(buf, at, m, digits::DIGITS)
+    put_magnitude(buf, at, m, k)
 }
 
-// The numbers from the second on, each after a comma.
-fn put_more(buf: &mut [u8], at: usize, xs: &[i64]) -> usize
-    requires { ⌜ (at + (digitsMax + 2) * length (now xs) ≤ placeMax) × Small (now xs) ⌝ }
-    ensures { λ r. ⌜ Wrote (now (buf .entry)) (now (buf .exit)) at r (showMore 1 (now (xs .entry))) ⌝ }
+// The numbers from the second on, of at most k digits each, each after a comma.
+fn put_more(buf: &mut [u8], at: usize, xs: &[i64], k: usize) -> usize
+    requires { ⌜ (k ≤ longMax) × (at + (k + 2) * length (now xs) ≤ placeMax) × Below k (now xs) ⌝ }
+    ensures { λ r. ⌜ Wrote (now (buf .entry)) (now (buf .exit)) at r (showMore k 1 (now (xs .entry))) ⌝ }
 {
     let mut p = at;
     let mut i = 1;
     while i < xs.len() {
         let v = xs[i];
         p = put_byte(buf, p, b',');
-        p = put_number(buf, p, v);
+        p = put_number(buf, p, v, k);
         i += 1;
     }
     p
 }
 
-// Numbers joined by commas.
-pub fn put_list(buf: &mut [u8], at: usize, xs: &[i64]) -> usize
-    requires { ⌜ (at + (digitsMax + 2) * (1 + length (now xs)) ≤ placeMax) × Small (now xs) ⌝ }
-    ensures { λ r. ⌜ Wrote (now (buf .entry)) (now (buf .exit)) at r (showList (now (xs .entry))) ⌝ }
+// Numbers of at most k digits each, joined by commas.
+pub fn put_list(buf: &mut [u8], at: usize, xs: &[i64], k: usize) -> usize
+    requires { ⌜ (k ≤ longMax) × (at + (k + 2) * (1 + length (now xs)) ≤ placeMax) × Below k (now xs) ⌝ }
+    ensures { λ r. ⌜ Wrote (now (buf .entry)) (now (buf .exit)) at r (showAll k (now (xs .entry))) ⌝ }
 {
     if xs.len() == 0 {
         return at;
     }
     let v = xs[0];
-    let next = put_number(buf, at, v);
-    put_more(buf, next, xs)
+    let next = put_number(buf, at, v, k);
+    put_more(buf, next, xs, k)
 }
 
 // A line: a key, some bytes and LF.
@@ -134,22 +139,48 @@ pub fn put_count_line(buf: &mut [u8], at: usize, key: &[u8], m: u64) -> usize
     put_byte(buf, b, b'\n')
 }
 
-// A line: a key, a list and LF.
-pub fn put_list_line(buf: &mut [u8], at: usize, key: &[u8], xs: &[i64]) -> usize
-    requires { ⌜ (at + length (now key) + (digitsMax + 2) * (1 + length (now xs)) < placeMax) × Small (now xs) ⌝ }
+// A line: a key, a list of numbers of at most k digits each and LF.
+pub fn put_list_line(buf: &mut [u8], at: usize, key: &[u8], xs: &[i64], k: usize) -> usize
+    requires { ⌜ (k ≤ longMax) × (at + length (now key) + (k + 2) * (1 + length (now xs)) < placeMax)
+        × Below k (now xs) ⌝ }
     ensures { λ r. ⌜ Wrote (now (buf .entry)) (now (buf .exit)) at r
-        (line (now (key .entry) ++ showList (now (xs .entry)))) ⌝ }
+        (line (now (key .entry) ++ showAll k (now (xs .entry)))) ⌝ }
 {
     let a = put_bytes(buf, at, key);
-    let b = put_list(buf, a, xs);
+    let b = put_list(buf, a, xs, k);
     put_byte(buf, b, b'\n')
 }
 
-// A line: a key, the first n of a row and LF.
-pub fn put_row_line(buf: &mut [u8], at: usize, key: &[u8], row: [i64; N], n: usize) -> usize
-    requires { ⌜ RowFits at (now key) row n ⌝ }
+// A line: a key, the first n of a row, of at most k digits each, and LF.
+pub fn put_row_line(
+    buf: &mut [u8],
+    at: usize,
+    key: &[u8],
+    row: [i64; N],
+    n: usize,
+    k: usize,
+) -> usize
+    requires { ⌜ RowFits at (now key) row n k ⌝ }
     ensures { λ r. ⌜ Wrote (now (buf .entry)) (now (buf .exit)) at r
-        (line (now (key .entry) ++ showList (placed n n row))) ⌝ }
+        (line (now (key .entry) ++ showAll k (placed n n row))) ⌝ }
 {
-    put_list_line(buf, at, key, &row[..n])
+    put_list_line(buf, at, key, &row[..n], k)
+}
+
+// A whole text over a lent buffer from its start on, or nothing where it has no room.
+pub fn put_whole(text: &[u8], out: &mut [u8]) -> Written
+    requires { ⌜ length (now text) ≤ placeMax ⌝ }
+    ensures { λ a. ⌜ Leaves Status.Done (now (text .entry)) (now (out .entry)) (now (out .exit)) a ⌝ }
+{
+    if out.len() < text.len() {
+        return Written {
+            status: Status::Refused(Fault::ShortBuffer, 0),
+            len: 0,
+        };
+    }
+    let len = put_bytes(out, 0, text);
+    Written {
+        status: Status::Done,
+        len,
+    }
 }

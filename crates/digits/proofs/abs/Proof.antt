@@ -11,15 +11,15 @@ use borrow.Author.Tests.{ltb-true}
 use mir.Syntax.{w64}
 use mir.Val.{Fits, SFits, toZ, ofZ}
 use mir.Facts.{toZ-ofZ}
-use Rattle.digits.specs.Number.{digitsMax}
+use Rattle.digits.specs.Number.{longMax}
 use Rattle.digits.proofs.abs.Statement.{statement}
 use Rattle.digits.proofs.abs.Tie as tie
 
-wide : (v : ℤ) → natAbs v < 10 ^ digitsMax → SFits w64 v
+wide : (v : ℤ) → natAbs v < 10 ^ longMax → SFits w64 v
 wide (pos n) h = record { sfits = omega arith }
 wide (negsuc n) h = record { sfits = omega arith }
 
-turned : (v : ℤ) → natAbs v < 10 ^ digitsMax → ltZ v (pos 0) ≡ true
+turned : (v : ℤ) → natAbs v < 10 ^ longMax → ltZ v (pos 0) ≡ true
     → SFits w64 (negℤ v) × (T (nonNeg (negℤ v)) × Fits w64 (natAbs (negℤ v))) × (natAbs (negℤ v) ≡ natAbs v)
 turned (pos n) h t = absurd (omega (arith, ltb-true n 0 t))
 turned (negsuc n) h t = (record { sfits = omega arith }, (tt, record { fits = omega arith }), refl)
@@ -28,14 +28,14 @@ less : (v : ℤ) → SFits w64 v → pos 0 -ℤ toZ w64 (ofZ w64 v) ≡ negℤ v
 less v f = rw (toZ-ofZ f) (+ℤ-idl (negℤ v))
 
 -- the test, as the number's own
-below : (v : ℤ) → natAbs v < 10 ^ digitsMax → ltZ (toZ w64 (ofZ w64 v)) (pos 0) ≡ true → ltZ v (pos 0) ≡ true
+below : (v : ℤ) → natAbs v < 10 ^ longMax → ltZ (toZ w64 (ofZ w64 v)) (pos 0) ≡ true → ltZ v (pos 0) ≡ true
 below v h t = rw (toZ-ofZ (wide v h)) at t
 
-kept : (v : ℤ) → natAbs v < 10 ^ digitsMax → ltZ v (pos 0) ≡ false → T (nonNeg v) × Fits w64 (natAbs v)
+kept : (v : ℤ) → natAbs v < 10 ^ longMax → ltZ v (pos 0) ≡ false → T (nonNeg v) × Fits w64 (natAbs v)
 kept (pos n) h t = (tt, record { fits = omega arith })
 kept (negsuc n) h t = absurd (let z : _≡_ {A = Bool} true false = t in true≢false z)
 
-above : (v : ℤ) → natAbs v < 10 ^ digitsMax → ltZ (toZ w64 (ofZ w64 v)) (pos 0) ≡ false → ltZ v (pos 0) ≡ false
+above : (v : ℤ) → natAbs v < 10 ^ longMax → ltZ (toZ w64 (ofZ w64 v)) (pos 0) ≡ false → ltZ v (pos 0) ≡ false
 above v h t = rw (toZ-ofZ (wide v h)) at t
 
 sub-result : tie.Need-sub-result

@@ -2,8 +2,9 @@
 use borrow.Author.Needs.{needs}
 use native.Mathlib.Omega.{arith}
 use Rattle.sizes.specs.Sizes.{endMax}
+use Rattle.digits.specs.Number.{digitsMax}
 use Rattle.writing.proofs.Wrote.{wrote-line, wrote-last}
-use Rattle.lines.proofs.Checks.{within-small}
+use Rattle.lines.proofs.Checks.{within-below}
 use Rattle.job_write.proofs.Parts.{body-long}
 use Rattle.job_write.proofs.put_body.Statement.{statement}
 use Rattle.job_write.proofs.put_body.Tie as tie
@@ -15,8 +16,9 @@ put-row-line-requires c κs =
     let a = start .pre .accepted in
     record {
       few = a .few;
+      wide = omega arith;
       room = omega (arith, start .pre .room);
-      small = within-small (j .head .n) (j .ends .lo) endMax (omega arith) (a .low);
+      small = within-below (j .head .n) (j .ends .lo) digitsMax endMax (omega arith) (a .low);
     }
 
 put-row-line-requires-2 : tie.Need-put-row-line-requires-2
@@ -27,8 +29,9 @@ put-row-line-requires-2 c κs =
     let a = start .pre .accepted in
     record {
       few = a .few;
+      wide = omega arith;
       room = omega (arith, lo .put-row-line .ensures .next, body-long j, start .pre .room);
-      small = within-small (j .head .n) (j .ends .hi) endMax (omega arith) (a .high);
+      small = within-below (j .head .n) (j .ends .hi) digitsMax endMax (omega arith) (a .high);
     }
 
 put-inverse-line-requires : tie.Need-put-inverse-line-requires

@@ -32,6 +32,7 @@ put-row-line-requires c κs =
     let start = job .before .before .before .before .before .before in
     record {
       few = start .pre .few;
+      wide = omega arith;
       room = omega (
         arith,
         job .put-count-line .ensures .next,
@@ -51,6 +52,7 @@ put-row-line-requires-2 c κs =
     let start = job .before .before .before .before .before .before in
     record {
       few = start .pre .few;
+      wide = omega arith;
       room = omega (
         arith,
         job .put-count-line .ensures .next,

@@ -1,51 +1,27 @@
--- accepted: what the check found nothing in is what a step takes.
+-- accepted: the job's own box is in range.
 use mathlib.Core.Path.{ap, _∙_}
 use Rattle.jobs.proofs.AcceptedLaws.{check-done}
-use Rattle.run.specs.Job.{resultOf}
-use Rattle.run.proofs.JobLaws.{job-in, step-in, outcome-made}
+use Rattle.step.proofs.Given.{start-in}
+use Rattle.run.specs.Job.{outcomeOf, resultOf}
 use Rattle.run.proofs.accepted.Statement.{statement}
 use Rattle.run.proofs.accepted.Tie as tie
 
-equations-requires : tie.Need-equations-requires
-equations-requires c κs = let s = c .before in job-in (check-done (s .args .j) (s .pre))
+box-of-requires : tie.Need-box-of-requires
+box-of-requires c κs = let s = c .before in check-done (s .args .j) (s .pre) .few
 
-matrix-requires : tie.Need-matrix-requires
-matrix-requires c κs = let s = c .before .before in check-done (s .args .j) (s .pre) .few
-
-start-box-requires : tie.Need-start-box-requires
-start-box-requires c κs = let s = c .before .before .before in check-done (s .args .j) (s .pre) .few
-
-bounded-requires : tie.Need-bounded-requires
-bounded-requires c κs =
-    let s = c .before .before .before .before in
-    let good = check-done (s .args .j) (s .pre) in
-    (good .some, good .few)
-
-run-steps-requires : tie.Need-run-steps-requires
-run-steps-requires c κs =
-    let e = c .before .before .before in
-    let s = e .before .before in
-    rw (c .bounded .ensures)
-    (step-in (s .args .j) (s .pre) (e .equations .ensures) (c .before .before .matrix .ensures)
-    (c .before .start-box .ensures))
+run-from-requires : tie.Need-run-from-requires
+run-from-requires c κs =
+    let s = c .before .before in
+    (s .pre, rw (c .box-of .ensures) (start-in (check-done (s .args .j) (s .pre))))
 
 result-of-requires : tie.Need-result-of-requires
-result-of-requires c κs =
-    let s = c .before .before .before .before .before .before in
-    check-done (s .args .j) (s .pre) .few
+result-of-requires c κs = let s = c .before .before .before in check-done (s .args .j) (s .pre) .few
 
 returns : tie.Need-returns
+unfolding outcomeOf
 returns c =
-    let x = c .before .before .before in
-    let e = x .before .before in
-    let s = e .before .before in
-    let made = outcome-made (s .args .j) (s .pre) (e .equations .ensures) (x .before .matrix .ensures)
-    (x .start-box .ensures) in
-    c .result-of .ensures
-    ∙ ap (resultOf (s .args .j)) (rw (c .before .before .bounded .ensures) at (c .before .run-steps .ensures) ∙ made)
+    let j = c .before .before .before .before .args .j in
+    c .result-of .ensures ∙ ap (resultOf j) (rw (c .before .before .box-of .ensures) at (c .before .run-from .ensures))
 
 pub accepted-spec : {M : Type 1} → statement M
-accepted-spec =
-    tie.close
-    (tie.spec equations-requires matrix-requires start-box-requires bounded-requires run-steps-requires
-    result-of-requires returns)
+accepted-spec = tie.close (tie.spec box-of-requires run-from-requires result-of-requires returns)

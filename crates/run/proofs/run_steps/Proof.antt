@@ -16,9 +16,10 @@ use Rattle.intervals.specs.Places.{entryAt, sideAt}
 use Rattle.jobs.specs.declared.Equation.{Equation}
 use Rattle.jobs.specs.Places.{equationAt}
 use Rattle.systems.specs.Terms.{equationOver, valuesOver, slopeRow, slopesOver}
-use Rattle.run.specs.Run.{imageBox, runOf}
-use Rattle.run.specs.Ranges.{StepIn}
-use Rattle.run.proofs.Image.{m-in, asked, image-is}
+use Rattle.step.specs.Step.{imageBox}
+use Rattle.step.specs.Ranges.{StepIn}
+use Rattle.step.proofs.Imaged.{m-in, asked, image-is}
+use Rattle.run.specs.Run.{runOf}
 use Rattle.run.proofs.Turns.{turned, run-turn, run-end, next-box}
 use Rattle.run.proofs.run_steps.Statement.{statement}
 use Rattle.run.proofs.run_steps.Tie as tie

@@ -4,6 +4,7 @@ use native.Mathlib.Omega.{arith}
 use mathlib.Core.List.{[], _∷_, append-assoc}
 use mir.Syntax.{w64}
 use mir.Facts.{toZ-ofZ}
+use Rattle.digits.specs.Number.{digitsMax}
 use Rattle.digits.specs.Show.{showNumber}
 use Rattle.digits.proofs.Show.{number-short}
 use Rattle.writing.proofs.Wrote.{wrote-append}
@@ -16,6 +17,7 @@ put-number-requires : tie.Need-put-number-requires
 put-number-requires c κs =
     let start = c .before .before .before in
     let v = start .args .t .coef in (
+      omega arith,
       omega (arith, start .pre .room),
       rw (toZ-ofZ {w = w64} {z = v} (search needs)) (omega (arith, start .pre .size .abs)),
     )
@@ -25,7 +27,7 @@ put-byte-requires c κs =
     let start = c .before .before .before .before .before .before .before in
     let v = start .args .t .coef in
     let number = rw (toZ-ofZ {w = w64} {z = v} (search needs)) at (c .before .before .before .put-number .ensures) in
-    omega (arith, number .next, number-short v, start .pre .room)
+    omega (arith, number .next, number-short digitsMax v, start .pre .room)
 
 put-exponents-requires : tie.Need-put-exponents-requires
 put-exponents-requires c κs =
@@ -38,7 +40,7 @@ put-exponents-requires c κs =
       room = omega (
         arith,
         number .next,
-        number-short v,
+        number-short digitsMax v,
         c .before .before .before .put-byte .ensures .next,
         start .pre .room,
       );

@@ -15,8 +15,8 @@ put-byte-requires c κs =
       arith,
       c .before .before .before .put-list .ensures .next,
       key,
-      list-short (start .args .xs .now),
-      start .pre .0,
+      list-short (start .args .k) (start .args .xs .now),
+      start .pre .1,
     )
 
 returns : tie.Need-returns

@@ -3,34 +3,34 @@ use borrow.Author.Needs.{needs}
 use mathlib.Core.Path.{_≡_, refl, ap, _∙_}
 use mir.Facts.{toZ-ofZ}
 use lib.IntN.{ℤ, pos, negsuc, natAbs}
-use lib.Signed.{ltZ, mag}
+use lib.Signed.{ltZ}
 use mathlib.Core.Bool.{true, false, true≢false}
 use mathlib.Core.List.{_∷_}
-use Prim.Native.Nat.{_≤_}
+use Prim.Native.Nat.{ℕ}
 use native.Mathlib.Omega.{arith}
+use native.Mathlib.Nat.{pow-le-pow-right}
 use borrow.Author.Tests.{ltb-true}
 use Rattle.writing.proofs.Wrote.{wrote-append}
-use Rattle.digits.specs.Number.{digitsMax}
-use Rattle.digits.specs.Show.{showMagnitude, showNumber}
+use Rattle.digits.specs.Bytes.{minusSign}
+use Rattle.digits.specs.Show.{showMagnitude, showSigned}
 use Rattle.writing.proofs.put_number.Statement.{statement}
 use Rattle.writing.proofs.put_number.Tie as tie
 
-small : (v : ℤ) → mag v ≤ natAbs v
-small (pos n) = omega arith
-small (negsuc n) = omega arith
+neg : (k : ℕ) (v : ℤ) → ltZ v (pos 0) ≡ true → showSigned k v ≡ minusSign ∷ showMagnitude k (natAbs v)
+unfolding showSigned
+neg k (pos n) t = absurd (omega (arith, ltb-true n 0 t))
+neg k (negsuc n) t = refl
 
-neg : (v : ℤ) → ltZ v (pos 0) ≡ true → showNumber v ≡ 45 ∷ showMagnitude digitsMax (natAbs v)
-unfolding showNumber
-neg (pos n) t = absurd (omega (arith, ltb-true n 0 t))
-neg (negsuc n) t = refl
-
-non : (v : ℤ) → ltZ v (pos 0) ≡ false → showNumber v ≡ showMagnitude digitsMax (natAbs v)
-unfolding showNumber
-non (pos n) t = refl
-non (negsuc n) t = absurd (true≢false t)
+non : (k : ℕ) (v : ℤ) → ltZ v (pos 0) ≡ false → showSigned k v ≡ showMagnitude k (natAbs v)
+unfolding showSigned
+non k (pos n) t = refl
+non k (negsuc n) t = absurd (true≢false t)
 
 abs-requires : tie.Need-abs-requires
-abs-requires c κs = rw (toZ-ofZ (c .before .fits .v)) (omega (arith, small (c .before .args .v), c .before .pre .1))
+abs-requires c κs =
+    let start = c .before in
+    let h = pow-le-pow-right {n = 10} (omega arith) (start .pre .0) in
+    rw (toZ-ofZ (start .fits .v)) (omega (arith, h, start .pre .2))
 
 returns : tie.Need-returns
 returns c =
@@ -38,7 +38,7 @@ returns c =
     let abs = c .before .before .before .before .before .before .before .before .before .abs .ensures in
     let start = c .before .before .before .before .before .before .before .before .before .before .before in
     let e = toZ-ofZ (start .fits .v) in
-    rw (neg (start .args .v) (rw e at test), ← (abs ∙ ap natAbs e))
+    rw (neg (start .args .k) (start .args .v) (rw e at test), ← (abs ∙ ap natAbs e))
     (wrote-append (c .before .before .before .before .before .before .put-byte .ensures)
     (c .before .before .put-magnitude .ensures))
 
@@ -47,7 +47,7 @@ returns-2 c =
     let start = c .before .before .before .before .before .before .before in
     let e = toZ-ofZ (start .fits .v) in
     rw (
-      non (start .args .v) (rw e at (c .before .before .before .before .if1 .left)),
+      non (start .args .k) (start .args .v) (rw e at (c .before .before .before .before .if1 .left)),
       ← (c .before .before .before .before .before .abs .ensures ∙ ap natAbs e),
     )
     (c .before .before .put-magnitude2 .ensures)

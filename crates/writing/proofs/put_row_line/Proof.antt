@@ -1,8 +1,10 @@
 -- `writing::put_row_line` meets its contract.
 use borrow.Author.Needs.{needs}
+use Prim.Native.Nat.{_+_, _≤_}
 use native.Mathlib.Omega.{arith}
+use native.Mathlib.Nat.{mul-le-mul-left}
 use mathlib.Core.Path.{_≡_, sym}
-use lib.ListN.{length, length-take}
+use lib.ListN.{length, take, length-take}
 use lib.Seq.{length-take-le}
 use Rattle.sizes.specs.Sizes.{nMax}
 use Rattle.writing.proofs.Lists.{taken-first}
@@ -20,8 +22,10 @@ put-list-line-requires c κs =
     let start = c .before .before .before .before in
     let n = start .args .n in
     let row = start .args .t4 in
-    let long : length row ≡ nMax = search needs in (
-      omega (arith, start .pre .room, start .pre .few, length-take n row),
+    let long : length row ≡ nMax = search needs in
+    let short : length (take n row) ≤ nMax = omega (arith, start .pre .few, length-take n row) in (
+      start .pre .wide,
+      omega (arith, start .pre .room, mul-le-mul-left (start .args .k + 2) short),
       rw (taken-first n row (omega (arith, start .pre .few))) (start .pre .small),
     )
 

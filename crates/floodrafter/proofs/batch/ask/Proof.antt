@@ -1,19 +1,14 @@
--- `floodrafter::batch::ask` meets its contract. What it requires itself stands too far back for `search`.
+-- ask: what it requires itself stands too far back for `search`.
 use borrow.Author.Needs.{needs}
 use Rattle.floodrafter.proofs.batch.ask.Statement.{statement}
 use Rattle.floodrafter.proofs.batch.ask.Tie as tie
 
 add-requires : tie.Need-add-requires
 add-requires c κs =
-    search (
-      needs,
-      c .before .before .before .before .before .before .before .before .before .before
-          .before .before .before .before .before .before .before .before .before .pre,
-    )
+    let far = c .before .before .before .before .before .before .before .before .before .before in
+    search (needs, far .before .before .before .before .before .before .before .before .before .pre)
 
 pub ask-spec : {M : Type 1} → statement M
 ask-spec =
     tie.close
-    (tie.spec (λ c. search needs) (λ c. search needs) (λ c. search needs) (λ c. search needs) (λ c. search needs)
-    (λ c κs. search needs) (λ c κs. search needs) (λ c κs. search needs) add-requires (λ c. search needs)
-    (λ c. search needs) (λ c. search needs) (λ c. search needs) (λ c. search needs) (λ c. search needs))
+    (tie.spec (λ c. search needs) (λ c. search needs) (λ c. search needs) (λ c. search needs) (λ c. search needs) (λ c. search needs) (λ c. search needs) (λ c. search needs) (λ c. search needs) (λ c κs. search needs) (λ c κs. search needs) (λ c κs. search needs) add-requires (λ c. search needs) (λ c. search needs) (λ c. search needs) (λ c. search needs) (λ c. search needs) (λ c. search needs))

@@ -11,6 +11,7 @@ unfolding textAt
 returns c = record {
   same = rw (c .before .before .before .before .request .given .1)
       (simp (lt-ltb _ _ (rw (c .before .before .kept .ensures) at (c .before .if1 .taken))) (c .nothing2 .ensures));
+  early = rw (c .nothing2 .ensures) (omega arith);
   low = rw (c .nothing2 .ensures) (omega arith);
   high = rw (c .nothing2 .ensures) (omega arith);
 }
@@ -19,6 +20,7 @@ returns-2 : tie.Need-returns-2
 unfolding textAt
 returns-2 c = record {
   same = rw (c .before .enum-told .given .1) (c .nothing .ensures);
+  early = rw (c .nothing .ensures) (omega arith);
   low = rw (c .nothing .ensures) (omega arith);
   high = rw (c .nothing .ensures) (omega arith);
 }
@@ -29,6 +31,8 @@ returns-3 c = record {
   same = rw (c .before .before .before .before .request .given .1)
       (simp (le-ltb _ _ (rw (c .before .before .kept .ensures) at (c .before .if1 .left)))
       (cc (c .before .before .kept .ensures, c .passed .ensures)));
+  early = rw (c .before .before .before .before .request .given .1) at
+      (c .before .before .before .before .before .before .pre .1);
   low = omega arith;
   high = omega arith;
 }

@@ -6,7 +6,8 @@ use native.Mathlib.Omega.{arith}
 use mathlib.Core.Path.{_≡_, refl, sym, _∙_}
 use mathlib.Core.List.{List}
 use lib.ListN.{length, getD}
-use Rattle.framing.specs.Requests.{space, afterSpace}
+use Rattle.arguments.specs.Words.{space}
+use Rattle.framing.specs.Requests.{afterSpace}
 use Rattle.framing.proofs.requests.after_space.Statement.{statement}
 use Rattle.framing.proofs.requests.after_space.Tie as tie
 

@@ -1,4 +1,4 @@
--- `framing::requests::made` meets its contract.
+-- made: an operation, with its length.
 use borrow.Author.Needs.{needs}
 use Rattle.framing.specs.Requests.{asked}
 use Rattle.framing.proofs.requests.made.Statement.{statement}
@@ -9,7 +9,7 @@ returns c = rw (c .before .before .name .given .1) (c .sized .ensures)
 
 returns-2 : tie.Need-returns-2
 unfolding asked
-returns-2 c = search needs
+returns-2 c = rw (c .enum-told .given .1)
 
 pub made-spec : {M : Type 1} → statement M
 made-spec = tie.close (tie.spec (λ c. search needs) (λ c κs. search needs) (λ c. search needs) returns returns-2)

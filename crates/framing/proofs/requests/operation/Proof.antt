@@ -1,47 +1,37 @@
--- `framing::requests::operation` meets its contract.
+-- operation: words that are no operation by themselves are cut at their first space.
 use borrow.Author.Needs.{needs}
 use mathlib.Core.Path.{sym, _∙_}
-use Rattle.framing.specs.Requests.{operationOf}
+use lib.Seq.{length-take-le}
+use Rattle.digits.proofs.Lists.{to-end}
+use Rattle.framing.specs.Requests.{orElse, operationOf}
 use Rattle.framing.proofs.requests.operation.Statement.{statement}
 use Rattle.framing.proofs.requests.operation.Tie as tie
 
+slice-aggregate-argued : tie.Need-slice-aggregate-argued
+slice-aggregate-argued c = sym (length-take-le _ _ (c .before .first-word .ensures .ends))
+
 returns : tie.Need-returns
-unfolding operationOf
-returns c = rw (sym (c .before .same-bytes .ensures) ∙ c .if1 .taken)
+unfolding operationOf orElse
+returns c = rw (← c .before .before .before .plain .ensures, c .before .name .given .1)
 
 returns-2 : tie.Need-returns-2
-unfolding operationOf
+unfolding operationOf orElse
 returns-2 c =
-    let first = c .before .before .before in
+    let word = c .before .before .before in
+    let told = word .before in
+    let words = told .before .before .before .before .args .words .now in
     rw (
-      sym (first .before .same-bytes .ensures) ∙ first .if1 .left,
-      sym (c .before .same-bytes2 .ensures) ∙ c .if2 .taken,
+      ← told .before .before .plain .ensures,
+      told .enum-told .given .1,
+      ← word .first-word .ensures .first,
+      ← word .first-word .ensures .rest,
+      ← to-end (word .first-word .result .next) words,
     )
-
-returns-3 : tie.Need-returns-3
-unfolding operationOf
-returns-3 c =
-    let second = c .before .before .before in
-    let first = second .before .before .before in
-    rw (
-      sym (first .before .same-bytes .ensures) ∙ first .if1 .left,
-      sym (second .before .same-bytes2 .ensures) ∙ second .if2 .left,
-      sym (c .before .same-bytes3 .ensures) ∙ c .if3 .taken,
-    )
-
-returns-4 : tie.Need-returns-4
-unfolding operationOf
-returns-4 c =
-    let second = c .before .before .before in
-    let first = second .before .before .before in
-    rw (
-      sym (first .before .same-bytes .ensures) ∙ first .if1 .left,
-      sym (second .before .same-bytes2 .ensures) ∙ second .if2 .left,
-      sym (c .before .same-bytes3 .ensures) ∙ c .if3 .left,
-    )
+    (c .argued .ensures)
 
 pub operation-spec : {M : Type 1} → statement M
 operation-spec =
     tie.close
-    (tie.spec (λ c. search needs) (λ c κs. search needs) returns (λ c. search needs) (λ c κs. search needs) returns-2
-    (λ c. search needs) (λ c κs. search needs) returns-3 returns-4)
+    (tie.spec (λ c κs. search needs) (λ c. search needs) (λ c. search needs) (λ c κs. search needs)
+    slice-aggregate-argued (λ c. search needs) (λ c. search needs) (λ c. search needs) (λ c κs. search needs) returns
+    returns-2)

@@ -23,7 +23,7 @@ returns-2 c =
     let start = test .before .before .before in
     let space = test .before .after-space in
     rw (← space .ensures .is, ne-eqb _ _ (test .if1 .left), ← to-end (space .result) (start .args .line .now))
-    (rw (← c .before .before .before .operation .ensures, ← c .before .length-of .ensures) (c .made .ensures))
+    (rw (← c .before .before .before .operation .ensures, ← c .before .count-of .ensures) (c .made .ensures))
 
 pub request-of-spec : {M : Type 1} → statement M
 request-of-spec =

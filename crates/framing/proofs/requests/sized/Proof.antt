@@ -1,16 +1,23 @@
--- `framing::requests::sized` meets its contract.
+-- sized: a length that the operation takes.
 use borrow.Author.Needs.{needs}
+use mathlib.Core.Path.{sym, _∙_}
 use Rattle.framing.specs.Requests.{asked}
 use Rattle.framing.proofs.requests.sized.Statement.{statement}
 use Rattle.framing.proofs.requests.sized.Tie as tie
 
 returns : tie.Need-returns
 unfolding asked
-returns c = rw (c .before .length .given .1)
+returns c = rw (c .before .before .before .length .given .1, sym (c .before .takes .ensures) ∙ c .if1 .taken)
 
 returns-2 : tie.Need-returns-2
 unfolding asked
-returns-2 c = search needs
+returns-2 c = rw (c .before .before .before .length .given .1, sym (c .before .takes .ensures) ∙ c .if1 .left)
+
+returns-3 : tie.Need-returns-3
+unfolding asked
+returns-3 c = rw (c .enum-told .given .1)
 
 pub sized-spec : {M : Type 1} → statement M
-sized-spec = tie.close (tie.spec (λ c. search needs) (λ c. search needs) returns returns-2)
+sized-spec =
+    tie.close
+    (tie.spec (λ c. search needs) (λ c κs. search needs) returns (λ c. search needs) returns-2 returns-3)

@@ -27,6 +27,7 @@ put-list-line-requires c κs =
     let n = start .args .n in
     let few = start .pre .few in
     rw (matrix-taken rows n few (c .before .before .before .entries .ensures)) (
+      omega arith,
       omega (arith, start .pre .room, matrix-long rows n, square-fits n few),
       matrix-within n (start .pre .some) few rows (start .pre .entries),
     )

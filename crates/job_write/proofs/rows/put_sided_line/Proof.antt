@@ -6,11 +6,12 @@ use lib.ListN.{length, take, length-take}
 use lib.Seq.{length-take-le}
 use mir.Facts.{toZ-ofZ}
 use Rattle.sizes.specs.Sizes.{nMax, entryMax}
+use Rattle.digits.specs.Number.{digitsMax}
 use Rattle.digits.proofs.Show.{number-short}
 use Rattle.writing.specs.Wrote.{line}
 use Rattle.writing.proofs.Lists.{taken-first, list-short}
 use Rattle.writing.proofs.Wrote.{wrote-append, wrote-as}
-use Rattle.lines.proofs.Checks.{within-small}
+use Rattle.lines.proofs.Checks.{within-below}
 use Rattle.job_write.proofs.Matrix.{sided-parts}
 use Rattle.job_write.proofs.rows.put_sided_line.Statement.{statement}
 use Rattle.job_write.proofs.rows.put_sided_line.Tie as tie
@@ -30,6 +31,7 @@ put-list-requires c κs =
     let row = start .args .t3 in
     let n = start .args .n in
     let long : length row ≡ nMax = search needs in (
+      omega arith,
       omega (
         arith,
         c .before .before .before .before .put-bytes .ensures .next,
@@ -38,7 +40,7 @@ put-list-requires c κs =
         length-take n row,
       ),
       rw (taken-first n row (omega (arith, long, start .pre .few)))
-          (within-small n row entryMax (omega arith) (start .pre .left)),
+          (within-below n row digitsMax entryMax (omega arith) (start .pre .left)),
     )
 
 put-byte-requires : tie.Need-put-byte-requires
@@ -49,7 +51,7 @@ put-byte-requires c κs =
       arith,
       c .before .before .before .before .before .before .before .before .put-bytes .ensures .next,
       c .before .before .before .put-list .ensures .next,
-      list-short xs,
+      list-short digitsMax xs,
       length-take (start .args .n) (start .args .t3),
       start .pre .room,
       start .pre .few,
@@ -62,12 +64,13 @@ put-number-requires c κs =
     let key-at = list-at .before .before .before .before .before in
     let start = key-at .before .before .before .before in
     let xs = take (start .args .n) (start .args .t3) in (
+      omega arith,
       omega (
         arith,
         key-at .put-bytes .ensures .next,
         list-at .put-list .ensures .next,
         comma-at .put-byte .ensures .next,
-        list-short xs,
+        list-short digitsMax xs,
         length-take (start .args .n) (start .args .t3),
         start .pre .room,
         start .pre .few,
@@ -89,8 +92,8 @@ put-byte-requires-2 c κs =
       list-at .put-list .ensures .next,
       comma-at .put-byte .ensures .next,
       number .next,
-      number-short (start .args .right),
-      list-short xs,
+      number-short digitsMax (start .args .right),
+      list-short digitsMax xs,
       length-take (start .args .n) (start .args .t3),
       start .pre .room,
       start .pre .few,

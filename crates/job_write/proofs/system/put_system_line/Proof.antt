@@ -7,8 +7,9 @@ use mir.Facts.{toZ-ofZ}
 use mir.Val.{SFits}
 use mir.Syntax.{w64}
 use Rattle.sizes.specs.Sizes.{entryMax}
+use Rattle.digits.specs.Number.{digitsMax}
 use Rattle.jobs.specs.Places.{rowAt}
-use Rattle.lines.proofs.Checks.{within-small}
+use Rattle.lines.proofs.Checks.{within-below}
 use Rattle.job_form.specs.JobBytes.{systemText}
 use Rattle.job_write.proofs.Parts.{kind-good}
 use Rattle.job_write.proofs.system.put_system_line.Statement.{statement}
@@ -50,8 +51,9 @@ put-row-line-requires c κs =
     let i = start .args .i in
     record {
       few = a .few;
+      wide = omega arith;
       room = omega (arith, start .pre .room);
-      small = within-small (j .head .n) (rowAt (j .system .rows) i) entryMax (omega arith)
+      small = within-below (j .head .n) (rowAt (j .system .rows) i) digitsMax entryMax (omega arith)
           (kind-good j i (c .before .before .before .before .enum-told3 .given .1) (a .system i (start .pre .live)));
     }
 

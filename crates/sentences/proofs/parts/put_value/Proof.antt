@@ -16,7 +16,7 @@ put-number-requires c κs =
     let start = test .before .before in
     let e = toZ-ofZ (start .fits .v) in
     let near = is-within (start .args .v) numberMax (rw e at (sym (test .within .ensures) ∙ c .before .if1 .taken)) in
-    rw e (omega (arith, start .pre), omega (arith, near .abs))
+    rw e (omega arith, omega (arith, start .pre), omega (arith, near .abs))
 
 returns : tie.Need-returns
 unfolding valueWords

@@ -24,6 +24,9 @@ unfolding showUnits
 non (pos n) t = refl
 non (negsuc n) t = absurd (true≢false t)
 
+abs-requires : tie.Need-abs-requires
+abs-requires c κs = rw (toZ-ofZ (c .before .fits .v)) (omega (arith, c .before .pre .1))
+
 returns : tie.Need-returns
 returns c =
     let minus = c .before .before .before .before .before .before in
@@ -44,5 +47,5 @@ returns-2 c =
 pub put-units-spec : {M : Type 1} → statement M
 put-units-spec =
     tie.close
-    (tie.spec (λ c κs. search needs) (λ c κs. search needs) (λ c κs. search needs) (λ c. search needs) returns
+    (tie.spec abs-requires (λ c κs. search needs) (λ c κs. search needs) (λ c. search needs) returns
     (λ c κs. search needs) (λ c. search needs) returns-2)

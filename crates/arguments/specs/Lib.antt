@@ -1,0 +1,5 @@
+pub mod Counts
+pub mod Longs
+pub mod Words
+pub mod Lists
+pub mod Boxes

@@ -1,0 +1,15 @@
+// The numbers that a request's line carries: counts, lists of long numbers, boxes.
+pub mod boxes;
+pub mod counts;
+pub mod longs;
+pub mod words;
+
+pub use boxes::Boxed;
+pub use boxes::Told;
+pub use boxes::box_of;
+pub use boxes::told_of;
+pub use counts::Counted;
+pub use counts::count_of;
+pub use longs::Places;
+pub use longs::list_of;
+pub use longs::long_number;

@@ -1,0 +1,37 @@
+-- run_from: what the check found nothing in is what a step takes.
+use mathlib.Core.Path.{_∙_}
+use Rattle.jobs.proofs.AcceptedLaws.{check-done}
+use Rattle.step.proofs.Given.{job-in, step-in}
+use Rattle.run.proofs.JobLaws.{run-made}
+use Rattle.run.proofs.run_from.Statement.{statement}
+use Rattle.run.proofs.run_from.Tie as tie
+
+equations-requires : tie.Need-equations-requires
+equations-requires c κs = let s = c .before in job-in (check-done (s .args .j) (s .pre .0))
+
+matrix-requires : tie.Need-matrix-requires
+matrix-requires c κs = let s = c .before .before in check-done (s .args .j) (s .pre .0) .few
+
+bounded-requires : tie.Need-bounded-requires
+bounded-requires c κs =
+    let s = c .before .before .before in
+    let good = check-done (s .args .j) (s .pre .0) in
+    (good .some, good .few)
+
+run-steps-requires : tie.Need-run-steps-requires
+run-steps-requires c κs =
+    let e = c .before .before in
+    let s = e .before .before in
+    rw (c .bounded .ensures)
+    (step-in (s .args .j) (s .pre .0) (e .equations .ensures) (c .before .matrix .ensures) (s .args .x) (s .pre .1))
+
+returns : tie.Need-returns
+returns c =
+    let e = c .before .before .before in
+    let s = e .before .before in
+    let made = run-made (s .args .j) (s .pre .0) (e .equations .ensures) (c .before .before .matrix .ensures) in
+    rw (c .before .bounded .ensures) at (c .run-steps .ensures) ∙ made (s .args .x) (s .args .allowance)
+
+pub run-from-spec : {M : Type 1} → statement M
+run-from-spec =
+    tie.close (tie.spec equations-requires matrix-requires bounded-requires run-steps-requires returns)

@@ -1,0 +1,10 @@
+pub mod Live
+pub mod Parts
+pub mod Imaged
+pub mod Keep
+pub mod Pass
+pub mod Newton
+pub mod Hold
+pub mod Decisions
+pub mod Exactly
+pub mod Given

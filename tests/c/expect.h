@@ -1,0 +1,24 @@
+/* What is expected of a request's answer, and what was not as expected. */
+#ifndef EXPECT_H
+#define EXPECT_H
+
+#include "requests.h"
+
+/* A request, the answer that is expected, and how many came before it. */
+struct asked {
+    struct request request;
+    struct bytes answer;
+    unsigned long before;
+};
+
+/* Tells on standard error of what does not hold, and counts it. */
+void expect(bool holds, const struct asked *r, const char *what);
+
+unsigned long failures(void);
+
+bool same(struct bytes b, const void *at, size_t len);
+
+/* The answer expected is this fault: the program tells it in two lines. */
+void expect_told(const struct asked *r, uint64_t fault, uint64_t line);
+
+#endif

@@ -1,0 +1,42 @@
+"""What is answered to a request: to its words, as `solve` or `image 0,0 9,9`, and its
+text."""
+
+from arithmetic import MAX_N, ends_of
+from steps import decision, decision_text, image_of, image_text
+from texts import Fault, job_text, read_job, read_result, result_text, solve
+
+
+def places(spelled):
+    """A list of a request as four places; a missing one is 0."""
+    ends = [int(end) for end in spelled.split(",")]
+    return ends + [0] * (MAX_N - len(ends))
+
+
+def reply(operation, words, text):
+    """The answer, or a Fault."""
+    if operation == "decide":
+        n, *lists = words
+        return decision_text(*decision(int(n), *map(places, lists)))
+    if operation == "result":
+        return result_text(read_result(text))
+    job = read_job(text)
+    if operation == "solve":
+        return result_text(solve(job))
+    if operation == "job":
+        return job_text(job)
+    lo, hi = map(places, words) if words else (job.lo, job.hi)
+    K = image_of(job, lo, hi)
+    if operation == "image":
+        return image_text(K)
+    return image_text(K) + decision_text(*decision(job.n, lo, hi, *ends_of(K)))
+
+
+def answer(request, text):
+    """What the product answers: the result text (solve), the same text again (job,
+    result), the image (image), what is decided (decide), both (step), or the two lines
+    `fault=N` and `line=L`."""
+    operation, *words = request.split(" ")
+    try:
+        return reply(operation, words, text)
+    except Fault as fault:
+        return f"fault={fault.number}\nline={fault.line}\n".encode("ascii")
