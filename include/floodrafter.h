@@ -2,7 +2,7 @@
  *
  * Link with target/staticlib/libfloodrafter_c.a (x86-64), which `rt staticlib floodrafter_c` proves and writes. docs/C.md has an example.
  *
- * Every function takes any bytes, lengths and numbers. It keeps no state, allocates nothing and calls nothing but memcpy, so that threads may call it
+ * Every function takes any bytes, lengths and numbers. It keeps no state, allocates nothing and calls nothing but memcpy and memset, so that threads may call it
  * as they like.
  * What it needs of its caller: a pointer that is not null, also where its length is 0, with at least that many bytes behind it, and `out` apart from `text`. */
 #ifndef FLOODRAFTER_H

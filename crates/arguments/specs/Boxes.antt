@@ -3,7 +3,7 @@ use mathlib.Core.List.{List}
 use mathlib.Core.Bool.{true, false, cond, _&&_}
 use Prim.Native.Nat.{ℕ}
 use Rattle.jobs.specs.Zero.{zeroEnds}
-use Rattle.arguments.specs.Counts.{countOf}
+use Rattle.arguments.specs.Counts.{countBy}
 use Rattle.arguments.specs.Words.{space, before, behind}
 use Rattle.arguments.specs.Lists.{placesOf}
 use Rattle.arguments.specs.declared.counts.Counted.{Counted}
@@ -37,4 +37,4 @@ toldBoxes n s =
     (boxedBy (behind space (behind space s)))
 
 unfoldable pub toldBy : List ℕ → Told
-toldBy s = toldBoxes (countOf (before space s)) (behind space s)
+toldBy s = toldBoxes (countBy (before space s)) (behind space s)

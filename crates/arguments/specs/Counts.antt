@@ -28,5 +28,5 @@ isSpelled s =
     (cond (eqb (getD s 0 0) digit0) (eqb (length s) 1)
     (allDigits s))
 
-unfoldable pub countOf : List ℕ → Counted
-countOf s = cond (isSpelled s) (Counted.Is (capped (valueFrom 0 s))) Counted.Bad
+unfoldable pub countBy : List ℕ → Counted
+countBy s = cond (isSpelled s) (Counted.Is (capped (valueFrom 0 s))) Counted.Bad

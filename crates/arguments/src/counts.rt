@@ -1,7 +1,7 @@
 // A count in digits.
 ghost use mathlib.Core.Path.{_≡_};
 ghost use Prim.Native.Nat.{_+_, _*_};
-ghost use Rattle.arguments.specs.Counts.{capped, valueFrom, isSpelled, countOf};
+ghost use Rattle.arguments.specs.Counts.{capped, valueFrom, isSpelled, countBy};
 use digits::all_digits;
 use digits::digit;
 
@@ -51,7 +51,7 @@ pub fn spelled(s: &[u8]) -> bool
 }
 
 pub fn count_of(s: &[u8]) -> Counted
-    ensures { λ r. ⌜ r ≡ countOf (now (s .entry)) ⌝ }
+    ensures { λ r. ⌜ r ≡ countBy (now (s .entry)) ⌝ }
 {
     if spelled(s) {
         return Counted::Is(value_of(s));

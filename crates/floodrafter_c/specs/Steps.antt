@@ -44,11 +44,11 @@ movedBy d = record {
 }
 
 -- n and the starting box of a job text
-unfoldable pub startOf : List ℕ → Shown
-startOf t = shownBy (readJob t .status) (readJob t .job .head .n) (readJob t .job .ends)
+unfoldable pub shownStart : List ℕ → Shown
+shownStart t = shownBy (readJob t .status) (readJob t .job .head .n) (readJob t .job .ends)
 
 -- K of a job text and a box
-unfoldable pub imageOf : List ℕ → Ends → Shown
-imageOf t x =
+unfoldable pub shownImage : List ℕ → Ends → Shown
+shownImage t x =
     shownBy (andThen (readJob t .status) (givesImage (readJob t .job) x .status)) (readJob t .job .head .n)
     (givesImage (readJob t .job) x .ends)

@@ -1,7 +1,7 @@
 // The step in two operations, for C: a box is a struct of its ends, and so is an answer.
 ghost use mathlib.Core.Path.{_≡_};
 ghost use Rattle.one_step.specs.OneStep.{givesImage, givesMove};
-ghost use Rattle.floodrafter_c.specs.Steps.{endsIn, sidesOf, shownBy, moveNumber, movedBy, startOf, imageOf};
+ghost use Rattle.floodrafter_c.specs.Steps.{endsIn, sidesOf, shownBy, moveNumber, movedBy, shownStart, shownImage};
 use faults::Status;
 use faults::fault_number;
 use jobs::Ends;
@@ -108,7 +108,7 @@ fn told(d: Decided) -> Moved
 
 #[no_mangle]
 pub extern "C" fn floodrafter_start(text: &[u8]) -> Shown
-    ensures { λ r. ⌜ r ≡ startOf (now (text .entry)) ⌝ }
+    ensures { λ r. ⌜ r ≡ shownStart (now (text .entry)) ⌝ }
 {
     let read = job_read::read_job(text);
     let status = read.status;
@@ -126,7 +126,7 @@ fn image_of(j: Job, x: Ends) -> Shown
 
 #[no_mangle]
 pub extern "C" fn floodrafter_image(text: &[u8], x: Sides) -> Shown
-    ensures { λ r. ⌜ r ≡ imageOf (now (text .entry)) (endsIn x) ⌝ }
+    ensures { λ r. ⌜ r ≡ shownImage (now (text .entry)) (endsIn x) ⌝ }
 {
     let read = job_read::read_job(text);
     let status = read.status;

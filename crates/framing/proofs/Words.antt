@@ -6,7 +6,7 @@ use mathlib.Core.Bool.{Bool, true, false, cond}
 use lib.ListN.{length, getD, take, drop}
 use lib.Dec.{eqb}
 use Rattle.arguments.specs.Words.{space}
-use Rattle.arguments.specs.Counts.{countOf}
+use Rattle.arguments.specs.Counts.{countBy}
 use Rattle.arguments.specs.declared.counts.Counted.{Counted}
 use Rattle.framing.specs.declared.requests.Named.{Named}
 use Rattle.framing.specs.declared.requests.Request.{Request}
@@ -25,10 +25,10 @@ words-asked Named.Unknown n words = omega arith
 
 words-split : (at : ℕ) (l : List ℕ) → at ≤ length l → wordsOf (split at l) ≤ length l
 unfolding split
-words-split at l h = by (eqb at 0) (words-asked (operationOf (take (at - 1) l)) (countOf (drop at l)) (at - 1))
+words-split at l h = by (eqb at 0) (words-asked (operationOf (take (at - 1) l)) (countBy (drop at l)) (at - 1))
   where
-    by : (t : Bool) → wordsOf (asked (operationOf (take (at - 1) l)) (countOf (drop at l)) (at - 1)) ≤ at - 1
-        → wordsOf (cond t Request.Bad (asked (operationOf (take (at - 1) l)) (countOf (drop at l)) (at - 1))) ≤ length l
+    by : (t : Bool) → wordsOf (asked (operationOf (take (at - 1) l)) (countBy (drop at l)) (at - 1)) ≤ at - 1
+        → wordsOf (cond t Request.Bad (asked (operationOf (take (at - 1) l)) (countBy (drop at l)) (at - 1))) ≤ length l
     by true few = omega arith
     by false few = omega arith
 

@@ -7,7 +7,7 @@ use mathlib.Core.Bool.{Bool, true, cond}
 use lib.ListN.{length, getD, take, drop}
 use lib.Dec.{eqb}
 use Rattle.text.specs.Keys.{sameBytes}
-use Rattle.arguments.specs.Counts.{countOf}
+use Rattle.arguments.specs.Counts.{countBy}
 use Rattle.arguments.specs.Words.{space, before, behind}
 use Rattle.arguments.specs.Boxes.{boxedBy, toldBy}
 use Rattle.arguments.specs.declared.counts.Counted.{Counted}
@@ -54,13 +54,13 @@ arguedOf first rest =
     (cond (sameBytes decideWord first) (namedIf (toldBy rest .good) Op.Decide)
     Named.Unknown)
 
-unfoldable pub orElse : Named → Named → Named
-orElse (Named.Is op) next = Named.Is op
-orElse Named.Unknown next = next
+unfoldable pub orNamed : Named → Named → Named
+orNamed (Named.Is op) next = Named.Is op
+orNamed Named.Unknown next = next
 
 -- the table of the operations
 unfoldable pub operationOf : List ℕ → Named
-operationOf w = orElse (plainOf w) (arguedOf (before space w) (behind space w))
+operationOf w = orNamed (plainOf w) (arguedOf (before space w) (behind space w))
 
 -- `decide` has no text
 unfoldable pub takesText : Op → ℕ → Bool
@@ -88,7 +88,7 @@ pub record AfterSpace (r : ℕ) (l : List ℕ) : Type 0 where
 
 -- what is asked stands before the last space, the length behind it
 unfoldable pub split : ℕ → List ℕ → Request
-split at l = cond (eqb at 0) Request.Bad (asked (operationOf (take (at - 1) l)) (countOf (drop at l)) (at - 1))
+split at l = cond (eqb at 0) Request.Bad (asked (operationOf (take (at - 1) l)) (countBy (drop at l)) (at - 1))
 
 unfoldable pub requestOf : List ℕ → Request
 requestOf l = split (afterSpace (length l) l) l

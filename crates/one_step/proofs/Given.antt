@@ -9,7 +9,8 @@ use Rattle.intervals.specs.Places.{sideAt}
 use Rattle.faults.proofs.Laws.{fine-first, fine-next, both-fine, unless-fine, fine-unless, fine-line, line-fine}
 use Rattle.faults.proofs.Laws.{done-first, done-next}
 use Rattle.jobs.proofs.RangeLaws.{all-within, within-all, all-ordered, ordered-all}
-use Rattle.jobs.specs.Checks.{checkJob}
+use Rattle.faults.specs.Checks.{firstOf}
+use Rattle.jobs.specs.Checks.{lowCheck, highCheck, checkJob}
 use Rattle.jobs.proofs.CheckLaws.{unknowns-fine}
 use Rattle.systems.specs.Ranges.{BoxIn}
 use Rattle.jobs.proofs.AcceptedLaws.{check-done}
@@ -20,8 +21,8 @@ use Rattle.faults.specs.declared.Finding.{Finding}
 use Rattle.faults.specs.declared.Status.{Status}
 use Rattle.jobs.specs.declared.Ends.{Ends}
 use Rattle.jobs.specs.declared.Job.{Job}
-use Rattle.one_step.specs.OneStep.{endsCheck, imageStatus, imageBy, givesImage}
-use Rattle.one_step.specs.OneStep.{decideCheck, decideStatus, movesTo, moveBy, givesMove}
+use Rattle.one_step.specs.OneStep.{endsCheck, boxCheck, imageStatus, imageBy, givesImage}
+use Rattle.one_step.specs.OneStep.{decideCheck, decideStatus, movesTo, decidedBy, givesMove}
 
 module _ (n B : ℕ) (e : Ends) where
   pub ends-in : endsCheck n (pos B) e ≡ Finding.Fine → (k : ℕ) → k < n → InI B (sideOf e k)
@@ -39,6 +40,11 @@ module _ (n B : ℕ) (e : Ends) where
       (both-fine (fine-unless Fault.Beyond (within-all (e .hi) n B (λ k l. h k l .high)))
       (fine-unless Fault.Crossed (ordered-all (e .lo) (e .hi) n (λ k l. h k l .order))))
 
+-- a box is checked as the lines lo and hi of a job are
+pub box-alike : (n : ℕ) (x : Ends) → boxCheck n x ≡ firstOf (lowCheck n (x .lo)) (highCheck n (x .lo) (x .hi))
+unfolding endsCheck lowCheck highCheck
+box-alike n x = refl
+
 pub image-status : (j : Job) (x : Ends) → givesImage j x .status ≡ imageStatus j x
 unfolding givesImage
 image-status j x = by (imageStatus j x)
@@ -51,7 +57,7 @@ pub decide-status : (n : ℕ) (x k : Ends) → givesMove n x k .status ≡ decid
 unfolding givesMove movesTo
 decide-status n x k = by (decideStatus n x k)
   where
-    by : (st : Status) → moveBy st n x k .status ≡ st
+    by : (st : Status) → decidedBy st n x k .status ≡ st
     by Status.Done = refl
     by (Status.Refused f line) = refl
 

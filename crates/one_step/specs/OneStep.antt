@@ -70,10 +70,10 @@ moveTo n d = record { status = Status.Done; what = d .what; ends = endsOf n (d .
 unfoldable pub movesTo : ℕ → Ends → Ends → Decided
 movesTo n x k = moveTo n (decideOf n (boxOf n x) (boxOf n k))
 
-abbrev pub moveBy : Status → ℕ → Ends → Ends → Decided
-moveBy Status.Done n x k = movesTo n x k
-moveBy (Status.Refused f line) n x k =
+abbrev pub decidedBy : Status → ℕ → Ends → Ends → Decided
+decidedBy Status.Done n x k = movesTo n x k
+decidedBy (Status.Refused f line) n x k =
     record { status = Status.Refused f line; what = Move.None; ends = zeroEnds }
 
 unfoldable pub givesMove : ℕ → Ends → Ends → Decided
-givesMove n x k = moveBy (decideStatus n x k) n x k
+givesMove n x k = decidedBy (decideStatus n x k) n x k

@@ -1,6 +1,6 @@
 -- Request P7, "Show the image before it is used". Only statements, each proved by one line from the files beside this
 -- one. `givesImage` and `givesMove` are what the two public operations answer (one_step, specs/OneStep).
-use mathlib.Core.Path.{_≡_, ap}
+use mathlib.Core.Path.{_≡_}
 use mathlib.Core.List.{List}
 use mathlib.Core.Logic.{_↔_}
 use Prim.Native.Nat.{ℕ, _≤_}
@@ -12,7 +12,8 @@ use Rattle.faults.specs.declared.Finding.{Finding}
 use Rattle.faults.specs.declared.Status.{Status}
 use Rattle.jobs.specs.declared.Ends.{Ends}
 use Rattle.jobs.specs.declared.Job.{Job}
-use Rattle.jobs.specs.Checks.{checkJob}
+use Rattle.faults.specs.Checks.{firstOf}
+use Rattle.jobs.specs.Checks.{lowCheck, highCheck, checkJob}
 use Rattle.jobs.specs.CheckResult.{checkResult}
 use Rattle.systems.specs.Kinds.{equationOf}
 use Rattle.step.specs.declared.Move.{Move}
@@ -22,6 +23,7 @@ use Rattle.step.specs.Decide.{stepOf}
 use Rattle.step.specs.Meanings.{Empty, Strictly, Unchanged}
 use Rattle.step.specs.Values.{boxOf, endsOf, inverseOf}
 use Rattle.one_step.specs.OneStep.{boxCheck, imageCheck, decideCheck, givesImage, moveTo, givesMove}
+use Rattle.one_step.proofs.Given as given
 use Rattle.run.specs.Job.{runFrom, resultOf, runJob}
 use Rattle.result_form.specs.ResultShows.{showResult}
 use Rattle.promises.specs.ByTwo.{runByTwo}
@@ -67,6 +69,10 @@ module _ (j : Job) (checked : checkJob j ≡ Status.Done) where
   -- and so does the public entry, from the job's own box with its own allowance
   pub entry-through : runJob j ≡ record { status = Status.Done; result = resultOf j (runByTwo j (j .steps) 0 (j .ends)) }
   entry-through = two.entry-given j checked
+
+-- "A box handed in is checked like a job's lo and hi,": by the very checks of these lines
+pub checked-alike : (n : ℕ) (x : Ends) → boxCheck n x ≡ firstOf (lowCheck n (x .lo)) (highCheck n (x .lo) (x .hi))
+checked-alike = given.box-alike
 
 -- "K cut with X, the order of the three tests .. stay as they are": of any X and K that are taken, each verdict comes
 -- exactly where document 01 says

@@ -45,11 +45,10 @@ pub box-in : (n : ℕ) (room : n ≤ nMax) (e : Ends) → ((k : ℕ) → k < n �
 box-in n room e h = record { places = room; each = λ k l. rw (box-at n room e k l) (h k l) }
 
 -- and of a box of sides, as values
-interval : ℤ → ℤ → Interval
+abbrev interval : ℤ → ℤ → Interval
 interval a b = record { lo = a; hi = b }
 
 pub ends-at : (n : ℕ) → n ≤ nMax → (x : List Interval) (k : ℕ) → k < n → sideOf (endsOf n x) k ≡ sideAt x k
-unfolding interval
 ends-at n room x k l =
     ap₂ interval (getD-tab (pos 0) nMax n (λ k. sideAt x k .lo) (pos 0) k l room)
     (getD-tab (pos 0) nMax n (λ k. sideAt x k .hi) (pos 0) k l room)

@@ -34,12 +34,12 @@ pub fn ends_of(x: [Interval; N], n: usize) -> Ends
 {
     let mut lo = [0i64; N];
     let mut hi = [0i64; N];
-    for k in 0..n {
-        let side = x[k];
+    for i in 0..n {
+        let side = x[i];
         let low = side.lo;
         let high = side.hi;
-        lo[k] = low;
-        hi[k] = high;
+        lo[i] = low;
+        hi[i] = high;
     }
     Ends { lo, hi }
 }

@@ -3,7 +3,7 @@ use borrow.Author.Needs.{needs}
 use mathlib.Core.Path.{sym, _∙_}
 use lib.Seq.{length-take-le}
 use Rattle.digits.proofs.Lists.{to-end}
-use Rattle.framing.specs.Requests.{orElse, operationOf}
+use Rattle.framing.specs.Requests.{orNamed, operationOf}
 use Rattle.framing.proofs.requests.operation.Statement.{statement}
 use Rattle.framing.proofs.requests.operation.Tie as tie
 
@@ -11,11 +11,11 @@ slice-aggregate-argued : tie.Need-slice-aggregate-argued
 slice-aggregate-argued c = sym (length-take-le _ _ (c .before .first-word .ensures .ends))
 
 returns : tie.Need-returns
-unfolding operationOf orElse
+unfolding operationOf orNamed
 returns c = rw (← c .before .before .before .plain .ensures, c .before .name .given .1)
 
 returns-2 : tie.Need-returns-2
-unfolding operationOf orElse
+unfolding operationOf orNamed
 returns-2 c =
     let word = c .before .before .before in
     let told = word .before in

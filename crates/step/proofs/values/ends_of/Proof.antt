@@ -20,10 +20,10 @@ abbrev ends : List ℤ → List ℤ → Ends
 ends lo hi = record { lo = lo; hi = hi }
 
 abbrev Inv-loop : tie.InvT-loop
-Inv-loop n x lo₀ hi₀ k₀ lo hi k = (k ≤ n) × ((lo ≡ lowEnds k x) × (hi ≡ highEnds k x))
+Inv-loop n x lo₀ hi₀ i₀ lo hi i = (i ≤ n) × ((lo ≡ lowEnds i x) × (hi ≡ highEnds i x))
 
 abbrev μ-loop : tie.MeasureT-loop
-μ-loop n x lo₀ hi₀ k₀ lo hi k = n - k
+μ-loop n x lo₀ hi₀ i₀ lo hi i = n - i
 
 loop-holds : tie.Need-loop-holds Inv-loop μ-loop
 loop-holds c = (omega arith, (tab-none (pos 0) nMax _, tab-none (pos 0) nMax _))
@@ -31,7 +31,7 @@ loop-holds c = (omega arith, (tab-none (pos 0) nMax _, tab-none (pos 0) nMax _))
 loop-again : tie.Need-loop-again Inv-loop μ-loop
 loop-again c =
     let l = c .before .before .before .before in
-    let side = sideAt (l .before .args .t1) (l .loop .k) in
+    let side = sideAt (l .before .args .t1) (l .loop .i) in
     let low : SFits w64 (side .lo) = search needs in
     let high : SFits w64 (side .hi) = search needs in (
       omega arith,
