@@ -137,10 +137,12 @@ static void print_reading(const struct text *text, struct worst *worst)
 
 static void print_name(const struct sort *sort)
 {
-    char terms[24] = "";
+    char more[24] = "";
     if (sort->terms > 0)
-        snprintf(terms, sizeof terms, "%d terms", sort->terms);
-    printf("%-6s n=%d %8s", sort->kind, sort->n, terms);
+        snprintf(more, sizeof more, "%d terms", sort->terms);
+    else if (sort->pin > 0)
+        snprintf(more, sizeof more, "pin=%d", sort->pin);
+    printf("%-6s n=%d %8s", sort->kind, sort->n, more);
 }
 
 static void print_sort(const struct sort *sort, struct worst *worst)

@@ -9,8 +9,9 @@
 static const long one = 65536;
 
 const struct sort sorts[] = {
-    {"poly", 1, 3, 4},   {"poly", 2, 2, 6},   {"poly", 4, 2, 7},  {"poly", 4, 3, 16}, {"linear", 1, 0, 0},
-    {"linear", 2, 0, 0}, {"linear", 4, 0, 0}, {"eigen", 1, 0, 0}, {"eigen", 2, 0, 0}, {"eigen", 4, 0, 0},
+    {"poly", 1, 3, 4, 0},   {"poly", 2, 2, 6, 0},   {"poly", 4, 2, 7, 0},   {"poly", 4, 3, 16, 0},
+    {"linear", 1, 0, 0, 0}, {"linear", 2, 0, 0, 0}, {"linear", 4, 0, 0, 0}, {"eigen", 1, 0, 0, 0},
+    {"eigen", 2, 0, 0, 0},  {"eigen", 4, 0, 0, 0},  {"eigen", 4, 0, 0, 1},
 };
 
 const size_t sort_count = sizeof sorts / sizeof sorts[0];
@@ -111,29 +112,40 @@ static void append_linear_row(struct text *text, const struct sort *sort, int i)
     append_number(text, sum, sort->n, sort->n + 1);
 }
 
-/* Each row adds up to 1, the eigenvalue of the vector of ones; the others are near -2. */
-static void append_eigen_row(struct text *text, const struct sort *sort, int i)
+/* The place of the coordinate that is set to 1, from 0: "Without the line the last is pinned". */
+static int pinned_of(const struct sort *sort)
 {
-    long sum = 0;
-    append(text, "row=");
-    for (int j = 0; j + 1 < sort->n; j++) {
-        long entry = i == j ? -2 * one : small(i, j);
-        append_number(text, entry, j, sort->n);
-        sum += entry;
-    }
-    append_number(text, one - sum, sort->n - 1, sort->n);
+    return (sort->pin > 0 ? sort->pin : sort->n) - 1;
 }
 
-/* The inverse of the slopes at the zero, up to small numbers, times `scale`: 1/4 on the diagonal; of an eigenpair's slopes, which are -3 there and -1 in the
- * last column, -1/3, with 1/3 in the last column and -1 at its end. */
+/* Each row adds up to 1, the eigenvalue of the vector of ones; the others are near -2. */
+static long eigen_entry(const struct sort *sort, int i, int j)
+{
+    if (j != pinned_of(sort))
+        return i == j ? -2 * one : small(i, j);
+    long rest = one;
+    for (int k = 0; k < sort->n; k++)
+        rest -= k == j ? 0 : eigen_entry(sort, i, k);
+    return rest;
+}
+
+static void append_eigen_row(struct text *text, const struct sort *sort, int i)
+{
+    append(text, "row=");
+    for (int j = 0; j < sort->n; j++)
+        append_number(text, eigen_entry(sort, i, j), j, sort->n);
+}
+
+/* The inverse of the slopes at the zero, up to small numbers, times `scale`: 1/4 on the diagonal; of an eigenpair's
+ * slopes, which are -3 there and -1 in the pinned column, -1/3, with 1/3 in that column and -1 where the two meet. */
 static long inverse_entry(const struct sort *sort, int i, int j, long scale)
 {
-    int last = sort->n - 1;
+    int pinned = pinned_of(sort);
     if (sort->kind[0] != 'e')
         return i == j ? scale / 4 : 0;
-    if (i == last)
-        return j == last ? -scale : 0;
-    return i == j ? -scale / 3 : j == last ? scale / 3 : 0;
+    if (i == pinned)
+        return j == pinned ? -scale : 0;
+    return i == j ? -scale / 3 : j == pinned ? scale / 3 : 0;
 }
 
 static void append_inverse(struct text *text, const struct sort *sort, long scale)
@@ -148,6 +160,8 @@ void write_job(const struct sort *sort, enum pace pace, int steps, struct text *
 {
     text->len = 0;
     append(text, "job=%d\nkind=%s\nn=%d\n", 41, sort->kind, sort->n);
+    if (sort->pin > 0)
+        append(text, "pin=%d\n", sort->pin);
     append_list(text, "lo", pace == LATE ? one : one - 5003, sort->n);
     append_list(text, "hi", pace == LATE ? one + one / 2 : one + 4001, sort->n);
     append_inverse(text, sort, pace == LATE ? one / 128 : one);

@@ -9,10 +9,11 @@ struct text {
     size_t len;
 };
 
-/* A sort of job: its kind and n and, for a polynomial one, the greatest degree and the number of terms of an equation. */
+/* A sort of job: its kind and n; for a polynomial one, the greatest degree and the number of terms of an equation; for
+ * an eigen one with a pin line, the pin. */
 struct sort {
     const char *kind;
-    int n, degree, terms;
+    int n, degree, terms, pin;
 };
 
 extern const struct sort sorts[];

@@ -36,11 +36,13 @@ struct equation {
     struct term terms[TERMS_MAX];
 };
 
-/* A polynomial job has its system in `equations`, the others in `rows`, a linear one with the right side as the last of its n + 1 numbers. */
+/* A polynomial job has its system in `equations`, the others in `rows`, a linear one with the right side as the last of its n + 1 numbers.
+ * `pin` counts the coordinates of an eigenvector from 1. */
 struct job {
     int64_t number;
     enum kind kind;
     size_t n;
+    int64_t pin;
     int64_t lo[UNKNOWNS_MAX], hi[UNKNOWNS_MAX];
     int64_t inverse[UNKNOWNS_MAX * UNKNOWNS_MAX];
     int64_t steps;

@@ -1,4 +1,4 @@
-/* The reader of a job text: document 01, "The job text and the result text" and "Fault numbers". */
+/* The reader of a job text: document 01, "The job text and the result text" and "Fault numbers"; document 02, P2. */
 #include <string.h>
 
 #include "peer_job.h"
@@ -151,6 +151,19 @@ static fault read_unknowns(struct reader *r, struct job *job)
     return 1 <= digit && digit <= UNKNOWNS_MAX ? FLOODRAFTER_DONE : FLOODRAFTER_UNKNOWNS;
 }
 
+/* "Eigen jobs, and no others, get a line `pin=` after `n`", "Without the line the last is pinned", "9 for a written
+ * pin of n, or any pin not 1 to n" */
+static fault read_pin(struct reader *r, struct job *job)
+{
+    int64_t last = (int64_t)job->n;
+    job->pin = last;
+    if (job->kind != EIGEN || !TAKE(r, "pin="))
+        return FLOODRAFTER_DONE;
+    r->line++;
+    fault f = read_list(r, &job->pin, 1, NUMBER_MAX);
+    return f == FLOODRAFTER_DONE && (job->pin < 1 || last <= job->pin) ? FLOODRAFTER_PIN : f;
+}
+
 static fault read_low_ends(struct reader *r, struct job *job)
 {
     return KEY(r, "lo=") ? read_list(r, job->lo, job->n, END_MAX) : FLOODRAFTER_SPELLING;
@@ -190,7 +203,7 @@ static fault read_system_line(struct reader *r, struct job *job, size_t i)
     return KEY(r, "row=") ? read_list(r, job->rows[i], count, ENTRY_MAX) : FLOODRAFTER_SPELLING;
 }
 
-/* "Order: job, kind, n, lo, hi, inv, steps, then n lines." */
+/* "Order: job, kind, n, lo, hi, inv, steps, then n lines", and after n the pin. */
 static fault read_lines(struct reader *r, struct job *job)
 {
     fault f = read_job_number(r, job);
@@ -198,6 +211,8 @@ static fault read_lines(struct reader *r, struct job *job)
         f = read_kind(r, job);
     if (f == FLOODRAFTER_DONE)
         f = read_unknowns(r, job);
+    if (f == FLOODRAFTER_DONE)
+        f = read_pin(r, job);
     if (f == FLOODRAFTER_DONE)
         f = read_low_ends(r, job);
     if (f == FLOODRAFTER_DONE)

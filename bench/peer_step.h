@@ -1,4 +1,5 @@
-/* A step of a job: document 01, "The arithmetic", "One Krawczyk step on box X with inverse C", "The three kinds"; powers as in document 02, P5.
+/* A step of a job: document 01, "The arithmetic", "One Krawczyk step on box X with inverse C", "The three kinds"; powers as in document 02, P5,
+ * the pinned coordinate as in P2.
  * It stands in a header so that the compiler builds it into the run, which is timed: a function shared with peer_step.c takes some 35 instructions more. */
 #ifndef PEER_STEP_H
 #define PEER_STEP_H
@@ -187,21 +188,22 @@ static void build_linear(struct job *job, size_t i)
     q->terms[job->n].coefficient = -job->rows[i][job->n];
 }
 
-/* "Equation i is the sum of a(i,j) x(j) over j < n, plus a(i,n), minus L x(i), where x(n) is 1." */
+/* "Equation i is the sum of a(i,j) x(j) over j < n, plus a(i,n), minus L x(i), where x(n) is 1", with another
+ * coordinate for n: "coordinate pin is 1 and the eigenvalue takes its place as that unknown". */
 static void build_eigen(struct job *job, size_t i)
 {
     struct equation *q = &job->equations[i];
-    size_t last = job->n - 1;
+    size_t pinned = (size_t)job->pin - 1;
     q->count = job->n + 1;
     memset(q->terms, 0, q->count * sizeof q->terms[0]);
-    for (size_t j = 0; j <= last; j++) {
+    for (size_t j = 0; j < job->n; j++) {
         q->terms[j].coefficient = job->rows[i][j];
-        q->terms[j].exponents[j] = j < last;
+        q->terms[j].exponents[j] = j != pinned;
     }
     struct term *product = &q->terms[job->n];
     product->coefficient = -MARKS;
-    product->exponents[last] = 1;
-    if (i < last)
+    product->exponents[pinned] = 1;
+    if (i != pinned)
         product->exponents[i] = 1;
 }
 

@@ -24,7 +24,7 @@ extern "C" {
 /* The most unknowns of a job: the places of a box. */
 #define FLOODRAFTER_N 4
 
-/* The faults of document 01. */
+/* The faults of documents 01 and 02. */
 enum floodrafter_fault {
     FLOODRAFTER_DONE = 0,
     FLOODRAFTER_LONG_TEXT = 1,    /* the text is over FLOODRAFTER_TEXT_MAX bytes */
@@ -34,7 +34,8 @@ enum floodrafter_fault {
     FLOODRAFTER_CROSSED = 5,      /* a low end is above its high end; the line is that of the high ends, or 0 for a box handed in */
     FLOODRAFTER_TERMS = 6,        /* an eq line has over 16 terms, a zero coefficient, a degree over 3 or the wrong order */
     FLOODRAFTER_SHORT_BUFFER = 7, /* the answer is longer than `out` */
-    FLOODRAFTER_STEPS = 8         /* steps is not 0 to 1,000 */
+    FLOODRAFTER_STEPS = 8,        /* steps is not 0 to 1,000 */
+    FLOODRAFTER_PIN = 9           /* a pin line of an eigen job says n, or a number that is not 1 to n */
 };
 
 /* What became of a text. */
@@ -45,17 +46,17 @@ typedef struct floodrafter_answer {
 } floodrafter_answer;
 
 /* Answers the job text `text` by its result text in `out`.
- * Faults: 1 to 6 and 8 of the job text, then 7. A fault writes nowhere; the bytes of `out` beyond the answer are the old ones. */
+ * Faults: 1 to 6, 8 and 9 of the job text, then 7. A fault writes nowhere; the bytes of `out` beyond the answer are the old ones. */
 floodrafter_answer floodrafter_solve(const uint8_t *text, size_t text_len, uint8_t *out, size_t out_len);
 
 /* Reads the job text `text` and writes it again into `out`: the same bytes.
- * Faults: 1 to 6 and 8 of the job text, then 7. A fault writes nowhere; the bytes of `out` beyond the text are the old ones. */
+ * Faults: 1 to 6, 8 and 9 of the job text, then 7. A fault writes nowhere; the bytes of `out` beyond the text are the old ones. */
 floodrafter_answer floodrafter_rewrite_job(const uint8_t *text, size_t text_len, uint8_t *out, size_t out_len);
 
 /* The same for a result text. Faults: 1 to 5 and 8 of the result text, then 7. */
 floodrafter_answer floodrafter_rewrite_result(const uint8_t *text, size_t text_len, uint8_t *out, size_t out_len);
 
-/* Checks the job text `text` and writes nothing: `len` is 0. Faults: 1 to 6 and 8. */
+/* Checks the job text `text` and writes nothing: `len` is 0. Faults: 1 to 6, 8 and 9. */
 floodrafter_answer floodrafter_check_job(const uint8_t *text, size_t text_len);
 
 /* Checks the result text `text` and writes nothing: `len` is 0. Faults: 1 to 5 and 8. */
@@ -102,11 +103,11 @@ typedef struct floodrafter_move {
     floodrafter_box box; /* all zero beside a fault */
 } floodrafter_move;
 
-/* The n and the starting box of the job text `text`. Faults: 1 to 6 and 8 of the job text. */
+/* The n and the starting box of the job text `text`. Faults: 1 to 6, 8 and 9 of the job text. */
 floodrafter_shown floodrafter_start(const uint8_t *text, size_t text_len);
 
 /* The n of the job text `text` and the image K of the box `x`, which need not be the job's own.
- * Faults: 1 to 6 and 8 of the job text; then of `x`, with line 0, 4 for an end beyond -262,144 to 262,144 and 5 for ends crossed. */
+ * Faults: 1 to 6, 8 and 9 of the job text; then of `x`, with line 0, 4 for an end beyond -262,144 to 262,144 and 5 for ends crossed. */
 floodrafter_shown floodrafter_image(const uint8_t *text, size_t text_len, floodrafter_box x);
 
 /* What the box `x` and the image `k` decide, both of n unknowns. An image may be any two ends in each coordinate from -2^46 to 2^46.

@@ -109,13 +109,16 @@ static void ask_by_word(const struct asked *r)
     }
 }
 
-/* The header's limits are the library's: "text over 2,048 bytes" is fault 1. */
+/* The header's limits and faults are the library's: "text over 2,048 bytes" is fault 1, "a written pin of n" fault 9. */
 static void expect_limits(void)
 {
     static const uint8_t text[FLOODRAFTER_TEXT_MAX + 1];
+    static const char last[] = "job=1\nkind=eigen\nn=1\npin=1\n";
     const struct asked limit = {.request = {.word = "limit"}};
     expect(floodrafter_check_job(text, FLOODRAFTER_TEXT_MAX).fault != FLOODRAFTER_LONG_TEXT, &limit, "the longest text is too long");
     expect(floodrafter_check_job(text, FLOODRAFTER_TEXT_MAX + 1).fault == FLOODRAFTER_LONG_TEXT, &limit, "a longer text is taken");
+    floodrafter_answer pinned = floodrafter_check_job((const uint8_t *)last, strlen(last));
+    expect(pinned.fault == FLOODRAFTER_PIN && pinned.line == 4, &limit, "a pin line for the last coordinate is taken");
     expect_step_limits(&limit);
 }
 

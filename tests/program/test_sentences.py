@@ -15,6 +15,11 @@ STEPS = "; expected steps= and a number"
 EQ = "; expected eq= and terms coefficient:exponents joined by commas, exponent digits a term: 1"
 VERDICT = "; expected verdict=none, verdict=unique, verdict=stalled or verdict=spent"
 NUMBERS = "; expected lo= and numbers joined by commas"
+THREE = "; expected lo= and 3 numbers joined by commas"
+PIN = "; expected pin= and a number from 1 to 2"
+PIN_OR_LO = PIN + ", or lo= and 3 numbers joined by commas"
+PIN_RANGE = ": it lies from 1 to 2"
+LAST = ": the last coordinate is pinned without this line, leave the line out"
 
 # the line that is put in place of that of a job for one unknown, its fault and its sentence
 JOB_FAULTS = [
@@ -113,15 +118,72 @@ SEVERAL = [
      "term 2 must stand before term 1: terms stand in falling order of their exponents"),
 ]
 
+# eigen jobs: of three unknowns, without a pin line and with one, and of one unknown; jobs of other kinds
+MODE, PINNED = ((EXAMPLES / name).read_bytes() for name in ("mode.txt", "flat-pinned.txt"))
+ONE = b"job=1\nkind=eigen\nn=1\nlo=0\nhi=0\ninv=0\nsteps=1\nrow=0\n"
+TWO = b"job=1\nkind=eigen\nn=2\npin=1\nlo=0,0\nhi=0,0\ninv=0,0,0,0\nsteps=1\nrow=0,0\nrow=0,0\n"
+LOAD = (EXAMPLES / "load.txt").read_bytes()
+PIN_FAULTS = [
+    (MODE, 4, "hi=0,0,0", 2, "line 4 begins with hi=, pin= or lo= is expected"),
+    (MODE, 4, "n=3", 2, "line 4 begins with n=, pin= or lo= is expected"),
+    (MODE, 4, "pi=1", 2, "line 4 does not begin with its key" + PIN_OR_LO),
+    (MODE, 4, "pin 1", 2, "line 4 does not begin with its key" + PIN_OR_LO),
+    (MODE, 4, "Pin=1", 2, "line 4 has a capital letter: all are small" + PIN_OR_LO),
+    (MODE, 4, "", 2, "line 4 is empty" + PIN_OR_LO),
+    (MODE, 4, " pin=1", 2, "line 4 has a blank or a tab: write it with none"),
+    (MODE, 4, "lo=0,,0", 2, "number 2 is missing" + THREE),
+    (MODE, 4, "lo=0,0", 2, "n=3: 3 numbers expected, 2 found"),
+    (MODE, 5, "pin=1", 2, "line 5 begins with pin=, hi= is expected"),
+    (PINNED, 3, "pin=1", 2, "line 3 begins with pin=, n= is expected"),
+    (PINNED, 4, "pin=", 2, "the number is missing" + PIN),
+    (PINNED, 4, "pin=01", 2, "the number begins with a zero and goes on: write it without that zero" + PIN),
+    (PINNED, 4, "pin=-0", 2, "the number has a zero right after its minus: write 0 with no minus" + PIN),
+    (PINNED, 4, "pin=-", 2, "the number has no digit after its minus" + PIN),
+    (PINNED, 4, "pin=+1", 2, "the number has a plus sign: write it with none" + PIN),
+    (PINNED, 4, "pin=1,2", 2, "the number is followed by a comma, and one number is all" + PIN),
+    (PINNED, 4, "pin=x", 2, "the number has a character that is no digit" + PIN),
+    (PINNED, 4, "pin=1000000000", 2, "the number has over 9 digits" + PIN),
+    (PINNED, 4, "pin=1 ", 2, "line 4 has a blank or a tab: write it with none"),
+    (PINNED, 4, "pin=1\r", 2, "line 4 has a carriage return: save with Unix line ends"),
+    (PINNED, 4, "pin=3", 9, "pin is 3" + LAST),
+    (PINNED, 4, "pin=0", 9, "pin is 0" + PIN_RANGE),
+    (PINNED, 4, "pin=-1", 9, "pin is -1" + PIN_RANGE),
+    (PINNED, 4, "pin=4", 9, "pin is 4" + PIN_RANGE),
+    (PINNED, 4, "pin=10", 9, "pin is 10" + PIN_RANGE),
+    (PINNED, 4, "pin=999999999", 9, "pin is 999999999" + PIN_RANGE),
+    (PINNED, 5, "pin=1", 2, "line 5 begins with pin=, lo= is expected"),
+    (PINNED, 5, "hi=0,0,0", 2, "line 5 begins with hi=, lo= is expected"),
+    (PINNED, 5, "lo=0,,0", 2, "number 2 is missing" + THREE),
+    (PINNED, 6, "hi=147456,-81921,16384", 5, "unknown 2: the high end -81921 is below the low end -81920"),
+    (PINNED, 7, "inv=0", 2, "n=3: 9 numbers expected, 1 found"),
+    (PINNED, 8, "steps=1001", 8, "steps is 1001: it lies from 0 to 1000"),
+    (PINNED, 9, "row=x", 2,
+     "number 1 has a character that is no digit; expected row= and 3 numbers joined by commas"),
+    (PINNED, 11, "row=0,0,4194305", 4, "number 3 is 4194305: entries lie from -4194304 to 4194304"),
+    (PINNED, 12, "row=0,0,0", 2, "line 12 is one too many: the line before it is the last"),
+    (TWO, 4, "pin=2", 9, "pin is 2" + LAST),
+    (TWO, 4, "pin=0", 9, "pin is 0: only 1 can stand here"),
+    (TWO, 4, "pin=x", 2, "the number has a character that is no digit; expected pin=1"),
+    (TWO, 4, "", 2, "line 4 is empty; expected pin=1, or lo= and 2 numbers joined by commas"),
+    (ONE, 4, "pin=1", 9, "pin is 1" + LAST),
+    (ONE, 4, "pin=2", 9, "pin is 2" + LAST),
+    (ONE, 4, "pin=x", 2, "line 4 begins with pin=, lo= is expected"),
+    (ONE, 4, "hi=0", 2, "line 4 begins with hi=, lo= is expected"),
+    (ONE, 4, "", 2, "line 4 is empty" + LO),
+    (LOAD, 4, "pin=1", 2, "line 4 begins with pin=, lo= is expected: only an eigen job has a pin line"),
+    (JOB, 4, "pin=x", 2, "line 4 begins with pin=, lo= is expected: only an eigen job has a pin line"),
+]
+
 
 # a row of the typists' page whose slip is a line that stands in place of the one with its key
 ROW = re.compile(r"^\| (\d) (?:\|.*)?\| `((\w+=)[^`]*)`[^|]*\| (\d+) \| ([^|]+) \|$", re.MULTILINE)
 
 
 def rows():
-    """Those of both tables of the page: whether of a job, and what the row says."""
-    jobs, results = (ROOT / "docs" / "TEXTS.md").read_text().split("A result text that is read", 1)
-    for page, text, command in ((jobs, JOB, "job"), (results, RESULT, "result")):
+    """Those of the three tables of the page: whether of a job, and what the row says."""
+    jobs, rest = (ROOT / "docs" / "TEXTS.md").read_text().split("Slips round a pin line", 1)
+    pins, results = rest.split("A result text that is read", 1)
+    for page, text, command in ((jobs, JOB, "job"), (pins, PINNED, "job"), (results, RESULT, "result")):
         for fault, line, key, number, sentence in ROW.findall(page):
             keys = [place for place in text.decode().splitlines() if place.startswith(key)]
             if keys:
@@ -164,6 +226,11 @@ class Faults(unittest.TestCase):
             with self.subTest(name=name, line=line):
                 self.refuses("job", changed((EXAMPLES / name).read_bytes(), number, line), fault, number, sentence)
 
+    def test_pins(self):
+        for text, number, line, fault, sentence in PIN_FAULTS:
+            with self.subTest(text=text, line=line):
+                self.refuses("job", changed(text, number, line), fault, number, sentence)
+
     def test_page(self):
         page = list(rows())
         self.assertGreater(len(page), 30)
@@ -183,13 +250,16 @@ class Faults(unittest.TestCase):
     def test_missing_line(self):
         self.refuses("job", JOB[:JOB.index(b"eq=")], 2, 8, "line 8 is missing" + EQ)
         self.refuses("result", RESULT[:RESULT.index(b"hi=")], 2, 5, "line 5 is missing" + HI)
+        self.refuses("job", MODE[:MODE.index(b"lo=")], 2, 4, "line 4 is missing" + PIN_OR_LO)
+        self.refuses("job", PINNED[:PINNED.index(b"lo=")], 2, 5, "line 5 is missing" + THREE)
 
     def test_line_left_out(self):
         self.refuses("job", JOB.replace(b"steps=8\n", b""), 2, 7, "line 7 begins with eq=, steps= is expected")
 
     def test_no_line_feed(self):
         for text, command, line in ((JOB, "job", 8), (RESULT, "result", 5), (b"job=41", "job", 1),
-                                    (b"job=41\nkind=poly", "job", 2), (b"job=41\nkind=poly\nn=1", "job", 3)):
+                                    (b"job=41\nkind=poly", "job", 2), (b"job=41\nkind=poly\nn=1", "job", 3),
+                                    (PINNED[:PINNED.index(b"lo=")], "job", 4), (PINNED, "job", 11)):
             ended = text if text.endswith(b"\n") else text + b"\n"
             self.refuses(command, ended[:-1], 2, line, f"line {line} has no line feed: press Enter at its end")
 

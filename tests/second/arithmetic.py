@@ -1,5 +1,5 @@
-"""The arithmetic of document 01, with the powers of document 02, P5: marks,
-intervals, powers, the Krawczyk step, the run.
+"""The arithmetic of document 01, with the powers of document 02, P5, and the pinned
+coordinate of P2: marks, intervals, powers, the Krawczyk step, the run.
 
 Every number is a whole count of marks, kept in Python's unbounded integers, so
 nothing here can overflow.  An interval is a pair (a, b) with a <= b; a box is a
@@ -26,8 +26,9 @@ KINDS = ("poly", "linear", "eigen")
 VERDICTS = ("none", "unique", "stalled", "spent")
 
 # Values.  Only live places are kept: lo and hi hold n numbers, inv holds n times
-# n row by row, lines holds n equations (poly) or n rows (linear, eigen).
-Job = namedtuple("Job", "job kind n lo hi inv steps lines")
+# n row by row, lines holds n equations (poly) or n rows (linear, eigen).  pin counts
+# the coordinates of an eigenvector from 1; "other kinds ignore it".
+Job = namedtuple("Job", "job kind n lo hi inv steps lines pin", defaults=[0])
 Result = namedtuple("Result", "job verdict steps lo hi")
 
 
@@ -131,26 +132,27 @@ def unit(n, *unknowns):
     return tuple(unknowns.count(k) for k in range(n))
 
 
+def linear_equation(job, i):
+    """"The sum of a(i,j) x(j), minus b(i)." """
+    n, row = job.n, job.lines[i]
+    return [(row[j], unit(n, j)) for j in range(n)] + [(-row[n], unit(n))]
+
+
+def eigen_equation(job, i):
+    """"The sum of a(i,j) x(j) over j < n, plus a(i,n), minus L x(i), where x(n) is 1",
+    with another coordinate in the place of n: "coordinate pin is 1 and the eigenvalue
+    takes its place as that unknown"."""
+    n, row, L = job.n, job.lines[i], job.pin - 1
+    x = [() if j == L else (j,) for j in range(n)]
+    return [(row[j], unit(n, *x[j])) for j in range(n)] + [(-MARK, unit(n, L, *x[i]))]
+
+
 def equations_of(job):
     """The equations of a job as lists of terms."""
-    n = job.n
     if job.kind == "poly":
         return job.lines
-    built = []
-    for i, row in enumerate(job.lines):
-        if job.kind == "linear":
-            # "the sum of a(i,j) x(j), minus b(i)"
-            terms = [(row[j], unit(n, j)) for j in range(n)]
-            terms.append((-row[n], unit(n)))
-        else:
-            # "the sum of a(i,j) x(j) over j < n, plus a(i,n), minus L x(i),
-            # where x(n) is 1"; L is unknown n
-            terms = [(row[j], unit(n, j)) for j in range(n - 1)]
-            terms.append((row[n - 1], unit(n)))
-            last = i == n - 1
-            terms.append((-MARK, unit(n, n - 1) if last else unit(n, i, n - 1)))
-        built.append(terms)
-    return built
+    build = linear_equation if job.kind == "linear" else eigen_equation
+    return [build(job, i) for i in range(job.n)]
 
 
 # "One Krawczyk step on box X with inverse C"

@@ -7,10 +7,11 @@ first: the documents' examples and the places their readers get wrong.
 from answers import answer
 from arithmetic import (Job, KINDS, MARK, MAX_END, MAX_ENTRY, MAX_N, MAX_TERMS, Result,
                         VERDICTS, ends_of)
-from damage import DIGITS, JOBS, STEPS, WORDS, at_limits, bytes_of, damaged
+from damage import at_limits, damaged, every_spelling, lines_of
 from dice import Dice
 from jobs import (allowance, job_number, largest_job, monomials, random_job,
-                  symmetric_job)
+                  symmetric_job, zero_job)
+from pin_cases import fixed_pins, random_pin
 from step_cases import fixed_steps, random_step
 from texts import job_text, result_text
 
@@ -21,7 +22,7 @@ T9 = Job(9, "poly", 1, [0], [0], [65_536], 8, [[(65_536, (1,)), (-65_536, (0,))]
 T11 = Job(11, "linear", 2, [-65_536] * 2, [65_536] * 2, [32_768, 0, 0, 16_384], 8,
           [[131_072, 0, 65_536], [0, 262_144, 65_536]])
 T12 = Job(12, "eigen", 2, [65_535, 131_071], [65_537, 131_073],
-          [-65_536, 65_536, 0, -65_536], 8, [[65_536, 65_536], [0, 131_072]])
+          [-65_536, 65_536, 0, -65_536], 8, [[65_536, 65_536], [0, 131_072]], 2)
 # x x x + x = 1/2 between -1 and 1: the slope 3 x x + 1 is 1 to 4
 CUBE = Job(5, "poly", 1, [-65_536], [65_536], [26_214], 8,
            [[(65_536, (3,)), (65_536, (1,)), (-32_768, (0,))]])
@@ -47,16 +48,6 @@ def equation_texts():
         yield right[:-len(b"eq=\n")] + line + b"\n"
 
 
-def spelling_texts(lines):
-    """The lines of one word or one number in every odd spelling."""
-    tables = {b"job": JOBS, b"kind": WORDS, b"verdict": WORDS, b"n": DIGITS, b"steps": STEPS}
-    for at, line in enumerate(lines):
-        key = line.partition(b"=")[0]
-        for spelled in tables.get(key, []):
-            changed = key + b"=" + bytes_of(spelled)
-            yield b"\n".join(lines[:at] + [changed] + lines[at + 1:] + [b""])
-
-
 def fixed():
     """The cases that stand in every set."""
     for job in EXAMPLES + [largest_job(kind) for kind in KINDS]:
@@ -65,24 +56,23 @@ def fixed():
         yield "job", text
         yield "image", text
         yield "result", answer("solve", text)
-    for kind in KINDS:                # all n, nothing but zeros, boxes without width
+    for kind in KINDS:
         for n in range(1, MAX_N + 1):
-            line = [] if kind == "poly" else [0] * (n + (kind == "linear"))
-            yield "solve", job_text(Job(0, kind, n, [0] * n, [0] * n, [0] * n * n,
-                                        1, [line] * n))
+            yield "solve", job_text(zero_job(kind, n, n))
     for operation in ("solve", "job", "result"):
         yield operation, b""
     two = JOB_41._replace(n=2, lo=[-1, -9], hi=[1, 9], inv=[0] * 4,
                           lines=[[(5, (1, 1)), (-7, (0, 0))], [(3, (0, 1))]])
     for job in (two, T11, T12):
-        for text in at_limits(job_text(job).split(b"\n")[:-1]):
+        for text in at_limits(lines_of(job_text(job))):
             yield "job", text
-    for text in (*equation_texts(), *spelling_texts(job_text(two).split(b"\n")[:-1])):
+    for text in (*equation_texts(), *every_spelling(lines_of(job_text(two)))):
         yield "job", text
-    lines = answer("solve", job_text(T11)).split(b"\n")[:-1]
-    for text in (*at_limits(lines), *spelling_texts(lines)):
+    lines = lines_of(answer("solve", job_text(T11)))
+    for text in (*at_limits(lines), *every_spelling(lines)):
         yield "result", text
     yield from fixed_steps()
+    yield from fixed_pins()
 
 
 def random_result(dice):
@@ -120,9 +110,10 @@ def random_case(dice):
 
 def cases(seed, count):
     """count requests, the fixed ones first.  Of the others each tenth is a symmetric
-    job and each tenth one of P7's; both have dice of their own, which leave the stream
-    of the rest as it is."""
-    dice, symmetric, step = Dice(seed), Dice(~seed), Dice(seed + 2 ** 32)
+    job, each tenth one of P7's and each tenth one of P2's; these have dice of their own,
+    which leave the stream of the rest as it is."""
+    dice, symmetric = Dice(seed), Dice(~seed)
+    step, pin = Dice(seed + 2 ** 32), Dice(seed + 2 ** 33)
     made = 0
     for case in fixed():
         if made < count:
@@ -133,6 +124,8 @@ def cases(seed, count):
             yield "solve", job_text(symmetric_job(symmetric))
         elif number % 10 == 4:
             yield random_step(step)
+        elif number % 10 == 7:
+            yield random_pin(pin)
         else:
             yield random_case(dice)
 

@@ -15,7 +15,8 @@
 - Decisions: whatever the image, the box that is left lies in X.
 - Newton: at each step the exact Newton image p - C f(p) of every fraction point
   p of X lies in K.
-- Zeros: a zero in the starting box is in the box handed back; none is not said.
+- Zeros: a zero in the starting box is in the box handed back; none is not said.  Those
+  of an eigen job are the eigenpairs whose pinned coordinate is 1 (document 02, P2).
 - Contraction: at unique, for two points p and q of the X of the deciding step,
   the greatest |g(p) - g(q)| over the widths of X is below that of |p - q|, where g
   is the exact Newton image; so X holds at most one zero.
@@ -30,7 +31,7 @@ from fractions import Fraction
 import arithmetic
 from arithmetic import MARK, MAX_END, MAX_IMAGE, ends_of
 from dice import Dice
-from jobs import random_job, symmetric_job
+from jobs import pinned_job, random_job, symmetric_job
 from step_cases import against
 from steps import decision, image_of
 from texts import read_job, job_text
@@ -82,16 +83,18 @@ def fraction_point(dice, box):
 
 
 def formulas(job, p):
-    """The linear and eigenpair equations as document 01 spells them."""
-    n, found = job.n, []
-    for i, row in enumerate(job.lines):
-        if job.kind == "linear":
-            found.append(sum(a * v / MARK for a, v in zip(row, p)) - row[n])
-        else:
-            x = [v / MARK for v in p[:n - 1]] + [Fraction(1)]
-            found.append(sum(row[j] * x[j] for j in range(n - 1)) + row[n - 1]
-                         - p[n - 1] * x[i])
-    return found
+    """The linear and eigenpair equations as the documents spell them: A x - b, and
+    A x - L x with x(pin) = 1 and L in its place."""
+    if job.kind == "linear":
+        return [sum(a * v / MARK for a, v in zip(row, p)) - row[job.n] for row in job.lines]
+    x = [v / MARK for v in p]
+    L, x[job.pin - 1] = p[job.pin - 1], Fraction(1)
+    return [sum(a * v for a, v in zip(row, x)) - L * x[i] for i, row in enumerate(job.lines)]
+
+
+def sort_of(job):
+    """The kind of a job, with its pin where a text has it."""
+    return "pinned eigen" if 0 < job.pin < job.n else job.kind
 
 
 def try_nesting(job, tried):
@@ -189,7 +192,7 @@ def try_job(dice, job, zeros, tried):
     if job.kind != "poly":
         p = fraction_point(dice, start)
         claim(values_at(equations, p) == formulas(job, p), "kinds", job, p)
-        tried["kinds: points of linear and eigen jobs"] += 1
+        tried[f"kinds: points of {sort_of(job)} jobs"] += 1
     try_nesting(job, tried)
     X = any_box(dice, job.n)
     try_decision(job, X, try_image(job, X, tried), tried)
@@ -210,20 +213,21 @@ def try_job(dice, job, zeros, tried):
     for zero in held:
         claim(result.verdict != "none" and inside(zero, list(zip(result.lo, result.hi))),
               "zeros never lost", job, zero)
-        tried[f"zeros: kept by a run that is {result.verdict}"] += 1
+        tried[f"zeros: kept by a run that is {result.verdict}, {sort_of(job)}"] += 1
     if len(held) > 1:
-        tried["zeros: starting boxes with two or more"] += 1
+        tried[f"zeros: starting boxes with two or more, {sort_of(job)}"] += 1
 
 
 def try_claims(seed, count):
-    """count jobs, half of them with known zeros, a quarter symmetric; how often each
-    claim was tried.  Raises Breach at the first claim that does not hold."""
+    """count jobs, half of them with known zeros, a quarter symmetric, an eighth pinned;
+    how often each claim was tried.  Raises Breach at the first claim that does not hold."""
     dice, tried = Dice(seed), Counter()
+    makers = [random_job, symmetric_job, pinned_job, symmetric_job]
     for number in range(count):
         if number % 2:
             job, zeros = job_with_zeros(dice)
         else:
-            job, zeros = (symmetric_job if number % 4 else random_job)(dice), []
+            job, zeros = makers[number // 2 % 4](dice), []
         claim(read_job(job_text(job)) == job, "accepted", job)
         try_job(dice, job, zeros, tried)
     return tried

@@ -4,34 +4,24 @@ right answer is, the readers of texts.py say."""
 
 import re
 
-from arithmetic import (MAX_DEGREE, MAX_END, MAX_ENTRY, MAX_JOB, MAX_N, MAX_STEPS,
-                        MAX_TERMS, MAX_TEXT)
+from arithmetic import MAX_DEGREE, MAX_END, MAX_ENTRY, MAX_N, MAX_TERMS, MAX_TEXT
 from jobs import coefficient, monomials
-
-ODD_BYTES = [b"\0", b"\r", b"\n", b" ", b"\t", b"+", b"-", b"0", b"9", b",", b":",
-             b"=", b".", b"x", b"\x7f", b"\x80", b"\xb2", b"\xff"]
-# spelled in ways that are no number, or that are a number at the edge of a size
-ODD_NUMBERS = ["", "-", "--1", "-0", "00", "01", "-01", "-00", "+1", " 1", "1 ",
-               "1.0", "1e3", "0x1", "x", "1-", "\0", "1\r", "\xb2", "\xff",
-               "1000000000", "-1000000000", "9" * 20, "0000000001",
-               "999999999", "-999999999", "0", "-1"]
-EDGES = [edge + beyond for size in (MAX_END, MAX_ENTRY)
-         for edge in (size, -size) for beyond in (-1, 0, 1)]
-WORDS = ["poly", "linear", "eigen", "Poly", "POLY", "pol", "polynomial", "", "poly ",
-         "none", "unique", "stalled", "spent", "Spent", "spentt", "0", "\xe9igen"]
-DIGITS = ["", "00", "01", "10", "-1", "-0", "+1", "x", "1 ", "\xb2", *"0123456789"]
-STEPS = ["-1", "0", str(MAX_STEPS), str(MAX_STEPS + 1), "999999999", "-999999999",
-         "1000000000", "-1000000000", "-0", "007", "", "8.", "8,8"]
-WRONG_JOBS = ["-1", "-5", "-999999999"]
-WRONG_DIGITS = ["0"] + [str(n) for n in range(MAX_N + 1, 10)]
-WRONG_STEPS = ["-1", str(MAX_STEPS + 1), "999999999", "-999999999"]
-JOBS = ["-1", "-5", "-0", "0", str(MAX_JOB), str(MAX_JOB + 1), "-999999999", "", "041",
-        "41 ", "4,1"]
+from spellings import EDGES, LIMITS, ODD_BYTES, ODD_NUMBERS, SPELLINGS, WORDS, WRONG
 
 
 def whole(lines):
     """The text of lines."""
     return b"".join(line + b"\n" for line in lines)
+
+
+def replaced(lines, at, line):
+    """The text of lines with another one in a place."""
+    return whole(lines[:at] + [line] + lines[at + 1:])
+
+
+def lines_of(text):
+    """The lines of a text whose last one ends in LF."""
+    return text.split(b"\n")[:-1]
 
 
 def bytes_of(text):
@@ -42,8 +32,7 @@ def bytes_of(text):
 def damaged_value(dice, line):
     """A line with one number, word or list changed."""
     key, _, value = line.partition(b"=")
-    own = {b"kind": WORDS, b"verdict": WORDS, b"n": DIGITS, b"steps": STEPS,
-           b"job": JOBS}.get(key)
+    own = SPELLINGS.get(key)
     if own and not dice.one_in(6):
         return key + b"=" + bytes_of(dice.pick(own))
     if key == b"eq" and not dice.one_in(4):
@@ -66,7 +55,7 @@ def damaged_value(dice, line):
 def beyond_value(dice, line):
     """A line with a fault other than 2, mostly well spelled."""
     key, _, value = line.partition(b"=")
-    wrong = {b"job": WRONG_JOBS, b"n": WRONG_DIGITS, b"steps": WRONG_STEPS}.get(key)
+    wrong = WRONG.get(key)
     if wrong:
         return key + b"=" + bytes_of(dice.pick(wrong))
     if key == b"eq":
@@ -140,17 +129,12 @@ def many_terms(dice, n, count):
             for e in found]
 
 
-LIMITS = {b"job": (0, MAX_JOB), b"n": (1, MAX_N), b"steps": (0, MAX_STEPS),
-          b"lo": (-MAX_END, MAX_END), b"hi": (-MAX_END, MAX_END),
-          b"inv": (-MAX_ENTRY, MAX_ENTRY), b"row": (-MAX_ENTRY, MAX_ENTRY),
-          b"eq": (-MAX_ENTRY, MAX_ENTRY)}
-
-
-def at_limits(lines):
-    """Every line with its first and its last number at each limit and one beyond,
-    the latter also before a misspelled one and in a list of the wrong count."""
-    for at, line in enumerate(lines):
-        key, _, value = line.partition(b"=")
+def at_limits(lines, since=0):
+    """Every line from a place on, with its first and its last number at each limit and
+    one beyond, the latter also before a misspelled one and in a list of the wrong
+    count."""
+    for at in range(since, len(lines)):
+        key, _, value = lines[at].partition(b"=")
         low, high = LIMITS.get(key, (0, 0))
         for number in (low - 1, low, high, high + 1):
             for place in (0, -1):
@@ -160,7 +144,15 @@ def at_limits(lines):
                 beyond = place == 0 and not low <= number <= high
                 for more in ([], [b"x"], [b"0"]) if beyond else ([],):
                     changed = key + b"=" + b",".join(parts + more)
-                    yield whole(lines[:at] + [changed] + lines[at + 1:])
+                    yield replaced(lines, at, changed)
+
+
+def every_spelling(lines, since=0):
+    """The lines of one word or one number, from a place on, in every spelling."""
+    for at in range(since, len(lines)):
+        key = lines[at].partition(b"=")[0]
+        for spelled in SPELLINGS.get(key, []):
+            yield replaced(lines, at, key + b"=" + bytes_of(spelled))
 
 
 # The ways.
@@ -168,13 +160,13 @@ def at_limits(lines):
 def one_value(dice, lines):
     """One line's value changed."""
     at = dice.below(len(lines))
-    return whole(lines[:at] + [damaged_value(dice, lines[at])] + lines[at + 1:])
+    return replaced(lines, at, damaged_value(dice, lines[at]))
 
 
 def one_beyond(dice, lines):
     """One line well spelled, with a fault 3, 4, 6 or 8; more of the later lines."""
     at = dice.between(dice.pick([0, 0, len(lines) - 2]), len(lines) - 1)
-    return whole(lines[:at] + [beyond_value(dice, lines[at])] + lines[at + 1:])
+    return replaced(lines, at, beyond_value(dice, lines[at]))
 
 
 def two_values(dice, lines):
@@ -240,7 +232,7 @@ def key_changed(dice, lines):
                       b" " + lines[at], key + b"= " + value, key, b"=" + value,
                       key + b"==" + value, key[:-1] + b"=" + value, lines[at] + b" ",
                       b"x=" + value, lines[at] + b"\r"])
-    return whole(lines[:at] + [line] + lines[at + 1:])
+    return replaced(lines, at, line)
 
 
 def every_line(dice, lines):
@@ -289,4 +281,4 @@ RARE_WAYS = [every_line, long_text, made_up]
 def damaged(dice, text):
     """A damaged text made from a right one."""
     way = dice.pick(RARE_WAYS) if dice.one_in(10) else dice.pick(WAYS)
-    return way(dice, text.split(b"\n")[:-1])
+    return way(dice, lines_of(text))

@@ -44,3 +44,8 @@ class Dice:
         for _ in range(min(count, len(left))):
             taken.append(left.pop(self.below(len(left))))
         return [choices[place] for place in sorted(taken)]
+
+    def shuffled(self, count):
+        """0 to count - 1 in any order."""
+        left = list(range(count))
+        return [left.pop(self.below(len(left))) for _ in range(count)]

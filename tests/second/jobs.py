@@ -3,7 +3,8 @@
 A job is made of independent choices: a kind and n, a system with a wanted zero
 z (or none), a box placed against z, an inverse, an allowance.  Good inverses are
 computed in fractions from the slopes at the middle of the box.  Symmetric jobs are
-those of document 02, P5: boxes round zero, squares and cubes in their terms.
+those of document 02, P5: boxes round zero, squares and cubes in their terms.  Pinned
+jobs are those of P2: eigen jobs with a pin line.
 """
 
 from fractions import Fraction
@@ -93,8 +94,9 @@ def row_lines(dice, kind, n):
              for j in range(width)] for i in range(n)]
 
 
-def settle(kind, n, lines, z):
-    """The same lines with constants that bring each equation near 0 at z."""
+def settle(kind, n, lines, z, pin=0):
+    """The same lines with constants that bring each equation near 0 at z; those of an
+    eigen job are the column of the pinned coordinate."""
     point, nothing, settled = [(v, v) for v in z], (0,) * n, []
     for i, line in enumerate(lines):
         if kind == "poly":
@@ -102,11 +104,11 @@ def settle(kind, n, lines, z):
             constant = clip(-equation_over(rest, point)[0], MAX_ENTRY)
             settled.append(rest + [(constant, nothing)] * (constant != 0))
         else:
-            place = n if kind == "linear" else n - 1
-            row = line[:place] + [0]
+            place = n if kind == "linear" else pin - 1
+            row = line[:place] + [0] + line[place + 1:]
             rows = [row if k == i else line for k in range(n)]
             value = equation_over(
-                equations_of(Job(0, kind, n, [], [], [], 0, rows))[i], point)[0]
+                equations_of(Job(0, kind, n, [], [], [], 0, rows, pin))[i], point)[0]
             row[place] = clip(value if kind == "linear" else -value, MAX_ENTRY)
             settled.append(row)
     return settled
@@ -232,18 +234,34 @@ def job_number(dice):
     return dice.pick([0, 1, 41, MAX_JOB, dice.below(1_000), dice.between(0, MAX_JOB)])
 
 
-def random_job(dice, kind=None, n=None):
-    """A job that every check accepts."""
+def random_job(dice, kind=None, n=None, pin=None):
+    """A job that every check accepts; where no pin is asked for, the last is pinned."""
     kind = kind or dice.pick(["poly", "poly", *KINDS])
     n = n or dice.between(1, MAX_N)
+    pin = (pin or n) if kind == "eigen" else 0
     lines = poly_lines(dice, n) if kind == "poly" else row_lines(dice, kind, n)
     reach = dice.pick([9, MARK // 2, MARK, 2 * MARK, MAX_END])
     z = [dice.around(reach) for _ in range(n)]
     if not dice.one_in(6):
-        lines = settle(kind, n, lines, z)
+        lines = settle(kind, n, lines, z, pin)
     box = box_around(dice, z)
-    job = Job(job_number(dice), kind, n, *ends_of(box), [], allowance(dice), lines)
+    job = Job(job_number(dice), kind, n, *ends_of(box), [], allowance(dice), lines, pin)
     return job._replace(inv=choose_inverse(dice, equations_of(job), box))
+
+
+# Every n and every pin that is written.
+PINNED = [(n, pin) for n in range(1, MAX_N + 1) for pin in range(1, n)]
+
+
+def pinned_job(dice):
+    """An eigen job with a pin line."""
+    return random_job(dice, "eigen", *dice.pick(PINNED))
+
+
+def zero_job(kind, n, pin):
+    """A job of nothing but zeros, its box without width."""
+    line = [] if kind == "poly" else [0] * (n + (kind == "linear"))
+    return Job(0, kind, n, [0] * n, [0] * n, [0] * n * n, 1, [line] * n, pin)
 
 
 def largest_job(kind):
@@ -255,7 +273,7 @@ def largest_job(kind):
     else:
         line = [-MAX_ENTRY] * width
     return Job(MAX_JOB, kind, MAX_N, [-MAX_END] * MAX_N, [-MAX_END] * MAX_N, full,
-               MAX_STEPS, [line] * MAX_N)
+               MAX_STEPS, [line] * MAX_N, MAX_N if kind == "eigen" else 0)
 
 
 def symmetric_job(dice):

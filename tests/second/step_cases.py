@@ -116,9 +116,8 @@ def spelled(dice, ends):
     return joined(ends)
 
 
-def random_image(dice):
+def random_image(dice, job):
     """The image of a job, mostly a right one, over its own box or another one."""
-    job = dice.pick([random_job, symmetric_job])(dice)
     text = damaged(dice, job_text(job)) if dice.one_in(6) else job_text(job)
     if dice.one_in(4):
         return "image", text
@@ -144,9 +143,8 @@ def against(dice, X):
     return found
 
 
-def random_decision(dice):
-    """What is decided of the first step of a job, or of an image against a box."""
-    job = random_job(dice)
+def random_decision(dice, job):
+    """What is decided of the first step of a job, or of an image against its box."""
     X = list(zip(job.lo, job.hi))
     near = dice.one_in(2)
     found = against(dice, X) if near else image(X, rows_of(job), equations_of(job))
@@ -157,4 +155,6 @@ def random_decision(dice):
 
 def random_step(dice):
     """One request."""
-    return (random_image if dice.one_in(2) else random_decision)(dice)
+    if dice.one_in(2):
+        return random_image(dice, dice.pick([random_job, symmetric_job])(dice))
+    return random_decision(dice, random_job(dice))

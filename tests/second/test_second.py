@@ -149,8 +149,8 @@ RESULT_FAULTS = [
 ]
 
 
-class Faults(unittest.TestCase):
-    """Fault numbers and lines."""
+class Told(unittest.TestCase):
+    """What is told of a fault."""
 
     def told(self, operation, text, fault, line):
         """Compares an answer with a fault."""
@@ -162,6 +162,10 @@ class Faults(unittest.TestCase):
         with self.assertRaises(Fault) as caught:
             entry(*values)
         self.assertEqual((caught.exception.number, caught.exception.line), (fault, line))
+
+
+class Faults(Told):
+    """Fault numbers and lines."""
 
     def test_lines(self):
         for operation, right, table in (("job", TWO, JOB_FAULTS),

@@ -247,9 +247,11 @@ class Claims(Slips):
         tried = try_claims(2, 300)
         for name in ("contraction: pairs of points", "newton: points",
                      "powers: members to the power 3", "powers: quotients of exponent 3",
-                     "zeros: kept by a run that is unique",
-                     "zeros: kept by a run that is stalled",
-                     "zeros: starting boxes with two or more",
+                     "zeros: kept by a run that is unique, poly",
+                     "zeros: kept by a run that is stalled, poly",
+                     "zeros: starting boxes with two or more, poly",
+                     "zeros: kept by a run that is unique, pinned eigen",
+                     "zeros: kept by a run that is stalled, pinned eigen",
                      "steps: as in the run", "images: in their range",
                      "decisions: a box left in X, unique"):
             self.assertGreater(tried[name], 0)

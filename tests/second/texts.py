@@ -1,4 +1,5 @@
-"""The job text and the result text of document 01, and its fault numbers.
+"""The job text and the result text of document 01, with the pin line of document 02,
+P2, and the fault numbers.
 
 One walk over the lines serves both a text and values handed over without text:
 "Values handed over without text get the same checks in the same line order."
@@ -91,6 +92,10 @@ class FromText:
         demand(found == key and equals, 2)
         return spelling(spelled)
 
+    def pinned(self):
+        """Whether the next line is a pin line, right or wrong."""
+        return any(line.startswith("pin=") for line in self.lines[self.line:self.line + 1])
+
     def end(self):
         """"Bytes after the last line are an extra line." """
         self.line += 1
@@ -109,6 +114,10 @@ class FromValues:
             self.row += 1
             return self.values.lines[self.row - 1]
         return getattr(self.values, key)
+
+    def pinned(self):
+        """"A pin equal to n means the last"; any other is a line of its own."""
+        return self.values.pin != self.values.n
 
     def end(self):
         """Values have no extra line."""
@@ -134,14 +143,42 @@ def proper(terms):
     demand(all(one[1] > other[1] for one, other in zip(terms, terms[1:])), 6)
 
 
+def walk_pin(line, kind, n):
+    """"Eigen jobs, and no others, get a line `pin=` after `n`."  "Without the line the
+    last is pinned."  "9 for a written pin of n, or any pin not 1 to n, on its own line,
+    after 2."  The pin of other kinds is 0."""
+    if kind != "eigen":
+        return 0
+    if not line.pinned():
+        return n
+    pin = line("pin", number)
+    demand(1 <= pin < n, 9)
+    return pin
+
+
+def walk_equation(line, kind, n):
+    """One of the last n lines: `eq` with its terms or, with its numbers, `row`."""
+    if kind == "poly":
+        terms = line("eq", terms_of(n))
+        within([c for c, _ in terms], -MAX_ENTRY, MAX_ENTRY)
+        proper(terms)
+        return terms
+    # "`row` lines of n + 1 numbers, the right side last"; eigen: of n
+    row = line("row", numbers)
+    demand(len(row) == (n + 1 if kind == "linear" else n), 2)
+    within(row, -MAX_ENTRY, MAX_ENTRY)
+    return row
+
+
 def walk_job(line):
-    """"Order: job, kind, n, lo, hi, inv, steps, then n lines." """
+    """"Order: job, kind, n, lo, hi, inv, steps, then n lines", and after n the pin."""
     job = line("job", number)
     within([job], 0, MAX_JOB)
     kind = line("kind", word)
     demand(kind in KINDS, 2)
     n = line("n", digit)
     demand(1 <= n <= MAX_N, 3)
+    pin = walk_pin(line, kind, n)
     lo = line("lo", numbers)
     demand(len(lo) == n, 2)
     within(lo, -MAX_END, MAX_END)
@@ -154,21 +191,9 @@ def walk_job(line):
     within(inv, -MAX_ENTRY, MAX_ENTRY)
     steps = line("steps", number)
     demand(0 <= steps <= MAX_STEPS, 8)
-    lines = []
-    for _ in range(n):
-        if kind == "poly":
-            terms = line("eq", terms_of(n))
-            within([c for c, _ in terms], -MAX_ENTRY, MAX_ENTRY)
-            proper(terms)
-            lines.append(terms)
-        else:
-            # "`row` lines of n + 1 numbers, the right side last"; eigen: of n
-            row = line("row", numbers)
-            demand(len(row) == (n + 1 if kind == "linear" else n), 2)
-            within(row, -MAX_ENTRY, MAX_ENTRY)
-            lines.append(row)
+    lines = [walk_equation(line, kind, n) for _ in range(n)]
     line.end()
-    return Job(job, kind, n, lo, hi, inv, steps, lines)
+    return Job(job, kind, n, lo, hi, inv, steps, lines, pin)
 
 
 def walk_result(line):
@@ -221,9 +246,11 @@ def joined(values):
 def job_text(job):
     """The text of a job's values, or a Fault of the values."""
     walked(walk_job, FromValues(job))
-    lines = [f"job={job.job}", f"kind={job.kind}", f"n={job.n}",
-             f"lo={joined(job.lo)}", f"hi={joined(job.hi)}",
-             f"inv={joined(job.inv)}", f"steps={job.steps}"]
+    lines = [f"job={job.job}", f"kind={job.kind}", f"n={job.n}"]
+    if job.kind == "eigen" and job.pin != job.n:      # "pin equal to n is never written"
+        lines.append(f"pin={job.pin}")
+    lines += [f"lo={joined(job.lo)}", f"hi={joined(job.hi)}",
+              f"inv={joined(job.inv)}", f"steps={job.steps}"]
     for line in job.lines:
         if job.kind == "poly":
             lines.append("eq=" + ",".join(

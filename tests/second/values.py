@@ -3,7 +3,8 @@
 The product's program (crates/vectors_values) hands the same table, case by case, to
 its run and its writers.  "Values handed over without text get the same checks in
 the same line order."  There every place past n is full of garbage, for "places past
-n play no part"; here only live places are kept.
+n play no part", and the pin of a polynomial or linear job too, for "other kinds ignore
+it"; here only live places are kept.
 """
 
 from arithmetic import MAX_END, MAX_ENTRY, MAX_JOB, MAX_N, MAX_STEPS, MAX_TERMS, Job, Result
@@ -16,12 +17,18 @@ LEAST, MOST = -2 ** 63, 2 ** 64 - 1     # what a place of the product's values c
 # x x = 2 and y = 1
 POLY = Job(41, "poly", 2, [65_536, 0], [131_072, 131_072], [21_845, 0, 0, 65_536], 8,
            [[(65_536, (2, 0)), (-131_072, (0, 0))], [(65_536, (0, 1)), (-65_536, (0, 0))]])
+PINNED = T12._replace(pin=1)
 RESULT = Result(41, "stalled", MAX_STEPS, [-3, 0], [3, 0])
 
 
 def ends(values, lo, hi):
     """Values with other ends of the second unknown."""
     return values._replace(lo=[values.lo[0], lo], hi=[values.hi[0], hi])
+
+
+def inverse(job, value):
+    """The job with another last entry of its inverse."""
+    return job._replace(inv=[*job.inv[:-1], value])
 
 
 def first_term(coefficient, *exponents):
@@ -64,8 +71,8 @@ JOBS = [
     ("ends crossed", ends(POLY, 1, 0)),
     ("ends crossed, high beyond", ends(POLY, 0, -MAX_END - 1)),
     ("ends without width", ends(POLY, 0, 0)),
-    ("inverse beyond", POLY._replace(inv=[21_845, 0, 0, MAX_ENTRY + 1])),
-    ("inverse least", POLY._replace(inv=[21_845, 0, 0, LEAST])),
+    ("inverse beyond", inverse(POLY, MAX_ENTRY + 1)),
+    ("inverse least", inverse(POLY, LEAST)),
     ("no term", first_equation([])),
     ("17 terms", first_equation([(1, (0, 0))] * (MAX_TERMS + 1))),
     ("17 terms, beyond", first_equation([(LEAST, (0, 0))] * (MAX_TERMS + 1))),
@@ -84,6 +91,17 @@ JOBS = [
         lines=[[131_072, 0, -MAX_ENTRY - 1], T11.lines[1]])),
     ("eigen", T12),
     ("eigen, entry least", entry(T12, LEAST)),
+    ("pin 1", PINNED),
+    ("pin 0", T12._replace(pin=0)),
+    ("pin 3", T12._replace(pin=3)),
+    ("pin at most", T12._replace(pin=MOST)),
+    ("n and pin", T12._replace(n=MAX_N + 1, pin=0)),
+    ("pin and low end", ends(T12._replace(pin=0), -MAX_END - 1, 0)),
+    ("pin 1, low end beyond", ends(PINNED, -MAX_END - 1, 0)),
+    ("pin 1, ends crossed", ends(PINNED, 1, 0)),
+    ("pin 1, inverse beyond", inverse(PINNED, MAX_ENTRY + 1)),
+    ("pin 1, steps 1001", PINNED._replace(steps=MAX_STEPS + 1)),
+    ("pin 1, entry least", entry(PINNED, LEAST)),
 ]
 RESULTS = [
     ("result", RESULT),
@@ -99,6 +117,7 @@ RESULTS = [
 ROOMS = [                           # a writer, values, and the bytes of the lent buffer
     (write_job, POLY, 122), (write_job, POLY, 121), (write_job, POLY, 1),
     (write_job, POLY._replace(n=MAX_N + 1), 1),
+    (write_job, PINNED, 123), (write_job, PINNED, 122),
     (write_result, RESULT, 49), (write_result, RESULT, 48),
     (write_result, RESULT._replace(lo=[], hi=[]), 1),
 ]

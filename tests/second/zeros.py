@@ -64,42 +64,81 @@ def linear_with_zero(dice, n):
     return lines, [[Fraction(v, d) for v in u]]
 
 
-def eigen_with_zero(dice, n):
-    """The vector u/d and 1, and an eigenvalue of whole marks: a(i,j) is a multiple
-    of d, for i = j the eigenvalue and a multiple of d, so a(i,n) is whole."""
-    d = dice.between(1, 13)
-    u = [dice.around(3 * d) for _ in range(n - 1)]
+def eigen_with_zero(dice, n, pin):
+    """The vector u/d, which is 1 in the pinned place, and an eigenvalue of whole marks:
+    elsewhere a(i,j) is a multiple of d, for i = j the eigenvalue and a multiple of d, so
+    a(i,pin) is whole."""
+    d, p = dice.between(1, 13), pin - 1
+    u = [d if j == p else dice.around(3 * d) for j in range(n)]
     eigenvalue = dice.around(3 * MARK)
     lines = []
     for i in range(n):
-        row = [d * dice.around(4 * MARK // d) + (eigenvalue if i == j else 0)
-               for j in range(n - 1)]
-        wanted = eigenvalue * (u[i] if i < n - 1 else d)
-        row.append((wanted - sum(v * w for v, w in zip(row, u))) // d)
+        row = [0 if j == p else d * dice.around(4 * MARK // d) + (eigenvalue if i == j else 0)
+               for j in range(n)]
+        row[p] = (eigenvalue * u[i] - sum(v * w for v, w in zip(row, u))) // d
         lines.append(row)
     if any(abs(v) > MAX_ENTRY for row in lines for v in row):
-        return eigen_with_zero(dice, n)
-    return lines, [[Fraction(v, d) for v in u] + [Fraction(eigenvalue, MARK)]]
+        return eigen_with_zero(dice, n, pin)
+    return lines, [eigenpair([Fraction(v, d) for v in u], eigenvalue, p)]
+
+
+def eigenpair(vector, eigenvalue, p):
+    """The zero of an eigenvector: coordinate p made 1, the eigenvalue in its place."""
+    zero = [v / vector[p] for v in vector]
+    zero[p] = Fraction(eigenvalue, MARK)
+    return zero
+
+
+def triangular_with_zeros(dice, n, pin):
+    """A triangular matrix, its rows and columns in another order: all of its eigenpairs
+    are known.  Where the pinned coordinate of a vector is 0, no multiple has 1 there."""
+    order = dice.shuffled(n)
+    values = [dice.around(3 * MARK) for _ in range(n)]
+    if len(set(values)) < n:
+        return triangular_with_zeros(dice, n, pin)
+    lines = [[0] * n for _ in range(n)]
+    for i in range(n):
+        lines[order[i]][order[i]] = values[i]
+        for j in range(i + 1, n):
+            lines[order[i]][order[j]] = dice.pick([0, dice.around(MARK), dice.around(4 * MARK)])
+    zeros = []
+    for k, value in enumerate(values):
+        vector = [Fraction(0)] * n
+        vector[order[k]] = Fraction(1)
+        for i in reversed(range(k)):
+            row = lines[order[i]]
+            vector[order[i]] = sum(a * v for a, v in zip(row, vector)) / (value - values[i])
+        if vector[pin - 1]:
+            zeros.append(eigenpair(vector, value, pin - 1))
+    return lines, zeros
+
+
+def system_with_zeros(dice, kind, n, pin):
+    """The lines of a job and its known zeros, in units."""
+    if kind == "poly":
+        return poly_with_zeros(dice, n)
+    if kind == "linear":
+        return linear_with_zero(dice, n)
+    return dice.pick([eigen_with_zero, triangular_with_zeros])(dice, n, pin)
 
 
 def job_with_zeros(dice):
     """An accepted job and its known zeros, in marks."""
-    kind = dice.pick(["poly", "poly", "linear", "eigen"])
-    make = {"poly": poly_with_zeros, "linear": linear_with_zero,
-            "eigen": eigen_with_zero}[kind]
+    kind = dice.pick(["poly", "poly", "linear", "eigen", "eigen"])
     n = dice.between(1, MAX_N)
-    lines, zeros = make(dice, n)
+    pin = dice.between(1, n) if kind == "eigen" else 0
+    lines, zeros = system_with_zeros(dice, kind, n, pin)
     zeros = [[MARK * v for v in zero] for zero in zeros]
     radius = dice.pick([2, 9, 100, 900, 4_000, 9_000, 30_000])
     placing = dice.pick(["mid", "in", "in", "low", "high", "both"])
-    box = []
+    aim, box = dice.pick(zeros), []
     for j in range(n):
-        ends = [zero[j] for zero in zeros]
         if placing == "both":
+            ends = [zero[j] for zero in zeros]
             low, high = min(ends).__floor__(), max(ends).__ceil__()
             box.append((clip(low - dice.below(radius), MAX_END),
                         clip(high + dice.below(radius), MAX_END)))
         else:
-            box.append(interval(dice, placing, dice.pick(zeros)[j].__floor__(), radius))
-    job = Job(job_number(dice), kind, n, *ends_of(box), [], allowance(dice), lines)
+            box.append(interval(dice, placing, aim[j].__floor__(), radius))
+    job = Job(job_number(dice), kind, n, *ends_of(box), [], allowance(dice), lines, pin)
     return job._replace(inv=choose_inverse(dice, equations_of(job), box)), zeros

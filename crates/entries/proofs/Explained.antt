@@ -15,7 +15,8 @@ use Rattle.sentences.specs.Sentences.{slipWords, Explains}
 use Rattle.sentences.proofs.Told.{slip-some, slip-none}
 use Rattle.entries.specs.Numbers.{told}
 
-number-some : (f : Fault) → 0 < faultNumber f
+-- a fault has a number
+pub number-some : (f : Fault) → 0 < faultNumber f
 number-some Fault.LongText = omega arith
 number-some Fault.Spelling = omega arith
 number-some Fault.Unknowns = omega arith
@@ -24,6 +25,7 @@ number-some Fault.Crossed = omega arith
 number-some Fault.Terms = omega arith
 number-some Fault.ShortBuffer = omega arith
 number-some Fault.Steps = omega arith
+number-some Fault.Pin = omega arith
 
 module _ {old new : List ℕ} {r : ℕ} where
   pub no-fault : (st : Status) → Explains (foundIn st) old new r → told st .number ≡ 0 → (r ≡ 0) × (new ≡ old)

@@ -20,12 +20,14 @@ use Rattle.faults.specs.Answer.{refused, answerOf, Leaves}
 use Rattle.faults.specs.declared.Written.{Written}
 use Rattle.step.proofs.Decisions.{zero-one}
 use Rattle.run.specs.Job.{answerBy, runJob}
-use Rattle.entries.specs.Numbers.{Told, told, tell, orElse, shortBuffer, Row, firstGiven, eachLine, systemRows}
+use Rattle.entries.specs.Numbers.{Told, told, tell, orElse, shortBuffer, Row, firstGiven, eachLine}
+use Rattle.entries.specs.Numbers.{systemRows, pinRows, boxRows}
 use Rattle.entries.specs.Numbers.{jobRows, resultRows}
 use Rattle.one_step.specs.OneStep.{givesImage, givesMove}
 use Rattle.one_step.proofs.Given.{image-status, decide-status}
 use Rattle.jobs.specs.declared.Ends.{Ends}
 use Rattle.entries.specs.Numbers.{imageRows, decideRows}
+use Rattle.entries.proofs.Explained.{number-some}
 use Rattle.entries.proofs.Rows.{Tells, before, job-tells, result-tells, image-tells, decide-tells}
 
 -- ---- values
@@ -79,9 +81,16 @@ without-lines (suc n) f h = without-both (eachLine n f) (f n) (without-lines n f
 
 pub job-values : (j : Job) → numberOf (checkJob j) ≡ 7 → ⊥
 job-values j n =
-    without-first (jobRows j) (without-lines (j .head .n) (systemRows (j .head .kind) j) (by (j .head .kind)))
+    without-first (jobRows j)
+    (without-both (pinRows (j .head .kind) j) (boxRows j) (pin (j .head .kind))
+    (without-lines (j .head .n) (systemRows (j .head .kind) j) (by (j .head .kind))))
     (sym (ap (λ (x : Told). x .number) (job-first j)) ∙ n)
   where
+    pin : (k : Kind) → without (pinRows k j) ≡ true
+    pin Kind.Poly = refl
+    pin Kind.Linear = refl
+    pin Kind.Eigen = refl
+
     by : (k : Kind) (i : ℕ) → without (systemRows k j i) ≡ true
     by Kind.Poly i = refl
     by Kind.Linear i = refl
@@ -99,16 +108,8 @@ run-status j = by (checkJob j)
     by (Status.Refused f line) = refl
 
 -- ---- a lent buffer
--- a fault has a number
 numbered : (f : Fault) → faultNumber f ≡ 0 → ⊥
-numbered Fault.LongText e = omega arith
-numbered Fault.Spelling e = omega arith
-numbered Fault.Unknowns e = omega arith
-numbered Fault.Beyond e = omega arith
-numbered Fault.Crossed e = omega arith
-numbered Fault.Terms e = omega arith
-numbered Fault.ShortBuffer e = omega arith
-numbered Fault.Steps e = omega arith
+numbered f e = omega (arith, number-some f)
 
 -- "When writing, faults of the values come before 7"
 written-told : (st : Status) (old t : List ℕ) → told (answerOf st old t .status) ≡ orElse (told st) (shortBuffer old t)

@@ -1,6 +1,8 @@
 -- Faults 1 and 7 are of a whole text: no line of a job or of a result has them.
 use Prim.Native.Nat.{ℕ}
 use mathlib.Core.List.{List}
+use Rattle.text.specs.Keys.{startsWith}
+use Rattle.text.specs.Words.{pinKey}
 use Rattle.faults.specs.declared.Fault.{Fault}
 use Rattle.jobs.specs.declared.Kind.{Kind}
 use Rattle.jobs.specs.declared.Job.{Job}
@@ -8,10 +10,10 @@ use Rattle.jobs.specs.declared.JobLine.{JobLine}
 use Rattle.jobs.specs.declared.Result.{Result}
 use Rattle.jobs.specs.declared.ResultLine.{ResultLine}
 use Rattle.reading.specs.Got.{Blamed}
-use Rattle.reading.proofs.Blamed.{blamed-fault, blamed-after}
-use Rattle.lines.proofs.Faults.{OfLine, spelling, number-of-line, kind-of-line, unknowns-of-line, low-of-line}
-use Rattle.lines.proofs.Faults.{high-of-line, inverse-of-line, steps-of-line, equation-of-line, sided-of-line}
-use Rattle.lines.proofs.Faults.{row-of-line, verdict-of-line, any-low-of-line}
+use Rattle.reading.proofs.Blamed.{blamed-fault, blamed-either, blamed-after}
+use Rattle.lines.proofs.Faults.{OfLine, spelling, number-of-line, kind-of-line, unknowns-of-line}
+use Rattle.lines.proofs.Faults.{pin-of-line, low-of-line, high-of-line, inverse-of-line, steps-of-line}
+use Rattle.lines.proofs.Faults.{equation-of-line, sided-of-line, row-of-line, verdict-of-line, any-low-of-line}
 use Rattle.job_form.specs.JobForm.{systemSays, jobSays}
 use Rattle.result_form.specs.ResultForm.{resultSays}
 
@@ -26,6 +28,9 @@ unfolding jobSays
 job-says JobLine.Number j l = blamed-after _ _ (number-of-line l)
 job-says JobLine.Kind j l = blamed-after _ _ (kind-of-line l)
 job-says JobLine.Unknowns j l = blamed-after _ _ (unknowns-of-line l)
+job-says JobLine.Pin j l =
+    blamed-either (startsWith pinKey l) _ _ (blamed-after _ _ (pin-of-line l (j .head .n)))
+    (blamed-after _ _ (low-of-line l (j .head .n)))
 job-says JobLine.Lo j l = blamed-after _ _ (low-of-line l (j .head .n))
 job-says JobLine.Hi j l = blamed-after _ _ (high-of-line l (j .head .n) (j .ends .lo))
 job-says JobLine.Inv j l = blamed-after _ _ (inverse-of-line l (j .head .n))

@@ -11,7 +11,8 @@ use Rattle.sizes.specs.Sizes.{nMax, stepsMax, numberMax, endMax, imageMax}
 use Rattle.faults.specs.Words.{faultNumber}
 use Rattle.faults.specs.Checks.{badUnless, onLine, andThen, linesOf}
 use Rattle.faults.proofs.Laws.{line-first, fine-skips, then-assoc}
-use Rattle.jobs.specs.Checks.{numberCheck, unknownsCheck, lowCheck, highCheck, inverseCheck, stepsCheck}
+use Rattle.jobs.specs.Lines.{pinLines, systemNumber}
+use Rattle.jobs.specs.Checks.{numberCheck, unknownsCheck, pinCheck, lowCheck, highCheck, inverseCheck, stepsCheck}
 use Rattle.jobs.specs.Checks.{equationCheck, rowCheck, sidedCheck, systemCheck, lineCheck}
 use Rattle.jobs.specs.Checks.{jobLineStatus, systemLines, headLines, bodyLines, checkJob}
 use Rattle.jobs.specs.CheckResult.{countCheck, countedCheck, resultCheck, resultLineStatus, checkResult}
@@ -23,7 +24,7 @@ use Rattle.jobs.specs.declared.Job.{Job}
 use Rattle.jobs.specs.declared.Result.{Result}
 use Rattle.faults.specs.declared.Status.{Status}
 use Rattle.entries.specs.Numbers.{Told, told, Row, firstGiven, eachLine, systemRows, jobRows, resultRows}
-use Rattle.entries.specs.Numbers.{endsRows, imageRows, decideRows}
+use Rattle.entries.specs.Numbers.{pinRows, boxRows, endsRows, imageRows, decideRows}
 
 -- what a status tells before the rest
 abbrev pub before : Status → Told → Told
@@ -69,21 +70,34 @@ tell-lines zero f g h = tell-none
 tell-lines (suc n) f g h = tell-both (tell-lines n f g h) (h n)
 
 module _ (j : Job) where
-  system-line : (k : Kind) (i : ℕ) → Tells (systemRows k j i) (onLine (systemCheck k j i) (8 + i))
+  system-line : (k : Kind) (i : ℕ) → Tells (systemRows k j i) (onLine (systemCheck k j i) (systemNumber (j .head) i))
   unfolding systemCheck equationCheck sidedCheck rowCheck
-  system-line Kind.Poly i = rw (line-first) (tell-row _ Fault.Beyond (8 + i) (tell-one _ Fault.Terms (8 + i)))
-  system-line Kind.Linear i = rw (line-first) (tell-row _ Fault.Beyond (8 + i) (tell-one _ Fault.Beyond (8 + i)))
-  system-line Kind.Eigen i = tell-one _ Fault.Beyond (8 + i)
+  system-line Kind.Poly i =
+      let m = systemNumber (j .head) i in rw (line-first) (tell-row _ Fault.Beyond m (tell-one _ Fault.Terms m))
+  system-line Kind.Linear i =
+      let m = systemNumber (j .head) i in rw (line-first) (tell-row _ Fault.Beyond m (tell-one _ Fault.Beyond m))
+  system-line Kind.Eigen i = tell-one _ Fault.Beyond (systemNumber (j .head) i)
+
+  pin-line : (k : Kind) → Tells (pinRows k j) (onLine (pinCheck k (j .head .n) (j .head .pin)) 4)
+  unfolding pinCheck onLine
+  pin-line Kind.Poly = tell-none
+  pin-line Kind.Linear = tell-none
+  pin-line Kind.Eigen = tell-one _ Fault.Pin 4
+
+  box-lines : Tells (boxRows j) (bodyLines j)
+  unfolding bodyLines systemLines jobLineStatus lineCheck lowCheck highCheck inverseCheck stepsCheck
+  box-lines =
+      let p = pinLines (j .head) in
+      rw (line-first, then-assoc)
+      (tell-row _ Fault.Beyond (4 + p) (tell-row _ Fault.Beyond (5 + p) (tell-row _ Fault.Crossed (5 + p)
+      (tell-row _ Fault.Beyond (6 + p) (tell-row _ Fault.Steps (7 + p)
+      (tell-lines (j .head .n) (systemRows (j .head .kind) j) _ (system-line (j .head .kind))))))))
 
   pub job-tells : Tells (jobRows j) (checkJob j)
-  unfolding checkJob headLines bodyLines systemLines jobLineStatus lineCheck numberCheck unknownsCheck lowCheck
-      highCheck inverseCheck stepsCheck
+  unfolding checkJob headLines jobLineStatus lineCheck numberCheck unknownsCheck
   job-tells =
-      rw (fine-skips, line-first, then-assoc, then-assoc)
-      (tell-row _ Fault.Beyond 1 (tell-row _ Fault.Unknowns 3
-      (tell-row _ Fault.Beyond 4 (tell-row _ Fault.Beyond 5 (tell-row _ Fault.Crossed 5
-      (tell-row _ Fault.Beyond 6 (tell-row _ Fault.Steps 7
-      (tell-lines (j .head .n) (systemRows (j .head .kind) j) _ (system-line (j .head .kind))))))))))
+      rw (fine-skips, then-assoc, then-assoc)
+      (tell-row _ Fault.Beyond 1 (tell-row _ Fault.Unknowns 3 (tell-both (pin-line (j .head .kind)) box-lines)))
 
 -- a test and its other side
 over : (a b : ℕ) → not (leb a b) ≡ ltb b a

@@ -10,8 +10,9 @@ use lib.ListN.{length, getD}
 use Rattle.sizes.specs.Sizes.{nMax, stepsMax, numberMax, endMax, entryMax, imageMax}
 use Rattle.jobs.specs.Places.{equationAt, rowAt}
 use Rattle.jobs.specs.Ranges.{isWithin, allWithin, allOrdered}
+use Rattle.jobs.specs.Lines.{pinLines, systemNumber}
 use Rattle.jobs.specs.Terms.{goodCoefs, goodTerms}
-use Rattle.jobs.specs.Checks.{goodUnknowns, goodEnds, goodEntries, goodMatrix}
+use Rattle.jobs.specs.Checks.{goodUnknowns, goodPin, goodEnds, goodEntries, goodMatrix}
 use Rattle.faults.specs.Words.{numberOf, lineOf}
 use Rattle.jobs.specs.declared.Kind.{Kind}
 use Rattle.jobs.specs.declared.Ends.{Ends}
@@ -60,26 +61,37 @@ eachLine (suc n) f = eachLine n f ++ f n
 -- line i of the system: `eq` of a polynomial job, `row` of a linear one with its right side, `row` of an eigenpair
 abbrev pub systemRows : Kind → Job → ℕ → List Row
 systemRows Kind.Poly j i =
-    row (8 + i) 4 (not (goodCoefs (equationAt (j .system .eqs) i)))
-    ∷ row (8 + i) 6 (not (goodTerms (equationAt (j .system .eqs) i) (j .head .n)))
+    row (systemNumber (j .head) i) 4 (not (goodCoefs (equationAt (j .system .eqs) i)))
+    ∷ row (systemNumber (j .head) i) 6 (not (goodTerms (equationAt (j .system .eqs) i) (j .head .n)))
     ∷ []
 systemRows Kind.Linear j i =
-    row (8 + i) 4 (not (goodEntries (rowAt (j .system .rows) i) (j .head .n)))
-    ∷ row (8 + i) 4 (not (isWithin (getD (j .system .right) i (pos 0)) (pos entryMax)))
+    row (systemNumber (j .head) i) 4 (not (goodEntries (rowAt (j .system .rows) i) (j .head .n)))
+    ∷ row (systemNumber (j .head) i) 4 (not (isWithin (getD (j .system .right) i (pos 0)) (pos entryMax)))
     ∷ []
-systemRows Kind.Eigen j i = row (8 + i) 4 (not (goodEntries (rowAt (j .system .rows) i) (j .head .n))) ∷ []
+systemRows Kind.Eigen j i =
+    row (systemNumber (j .head) i) 4 (not (goodEntries (rowAt (j .system .rows) i) (j .head .n))) ∷ []
 
--- "Order: job, kind, n, lo, hi, inv, steps, then n lines"
+-- document 02, P2: "9 for .. any pin not 1 to n, on its own line"; "other kinds ignore it"
+abbrev pub pinRows : Kind → Job → List Row
+pinRows Kind.Poly j = []
+pinRows Kind.Linear j = []
+pinRows Kind.Eigen j = row 4 9 (not (goodPin (j .head .n) (j .head .pin))) ∷ []
+
+-- "Order: job, kind, n, lo, hi, inv, steps, then n lines": a pin line moves those after it
+abbrev pub boxRows : Job → List Row
+boxRows j =
+    row (4 + pinLines (j .head)) 4 (not (goodEnds (j .ends .lo) (j .head .n)))
+    ∷ row (5 + pinLines (j .head)) 4 (not (goodEnds (j .ends .hi) (j .head .n)))
+    ∷ row (5 + pinLines (j .head)) 5 (not (allOrdered (j .ends .lo) (j .ends .hi) (j .head .n)))
+    ∷ row (6 + pinLines (j .head)) 4 (not (goodMatrix (j .inv) (j .head .n)))
+    ∷ row (7 + pinLines (j .head)) 8 (not (leb (j .steps) stepsMax))
+    ∷ eachLine (j .head .n) (systemRows (j .head .kind) j)
+
 abbrev pub jobRows : Job → List Row
 jobRows j =
     row 1 4 (not (leb (j .head .number) numberMax))
     ∷ row 3 3 (not (goodUnknowns (j .head .n)))
-    ∷ row 4 4 (not (goodEnds (j .ends .lo) (j .head .n)))
-    ∷ row 5 4 (not (goodEnds (j .ends .hi) (j .head .n)))
-    ∷ row 5 5 (not (allOrdered (j .ends .lo) (j .ends .hi) (j .head .n)))
-    ∷ row 6 4 (not (goodMatrix (j .inv) (j .head .n)))
-    ∷ row 7 8 (not (leb (j .steps) stepsMax))
-    ∷ eachLine (j .head .n) (systemRows (j .head .kind) j)
+    ∷ (pinRows (j .head .kind) j ++ boxRows j)
 
 -- a result's lines are job, verdict, steps, lo, hi: "an empty list (n = 0 in values) is fault 2, one of over 4
 -- numbers fault 3"

@@ -7,10 +7,10 @@ use Rattle.lists.specs.Loops.{tab, carry, allB}
 use Rattle.intervals.specs.Interval.{addI, negI, sumI, scaleI, wideI, outI, mulI, midI, meetsI, insideI, cutI, sameI}
 use Rattle.powers.specs.Powers.{holdsZero, squareRange, squareI, cubeI, powerI}
 use Rattle.matrices.specs.Products.{dotI, dOf, unitZ, entryB, bOf, eOf}
-use Rattle.jobs.specs.Ranges.{isWithin, allWithin, allOrdered}
+use Rattle.jobs.specs.Ranges.{oneTo, isWithin, allWithin, allOrdered}
 use Rattle.jobs.specs.Terms.{alike, falls, inOrder, goodTerm, goodPlace, goodTerms, goodCoefs, degree}
 use Rattle.faults.specs.Checks.{badUnless, firstOf, onLine, andThen, linesOf}
-use Rattle.jobs.specs.Checks.{goodUnknowns, goodMatrix, numberCheck, unknownsCheck}
+use Rattle.jobs.specs.Checks.{goodMatrix, numberCheck, unknownsCheck, pinCheck}
 use Rattle.jobs.specs.Checks.{lowCheck, highCheck, inverseCheck, stepsCheck}
 use Rattle.jobs.specs.Checks.{equationCheck, rowCheck, sidedCheck, systemCheck, lineCheck}
 use Rattle.jobs.specs.Checks.{jobLineStatus, systemLines, headLines, bodyLines, checkJob}
@@ -28,7 +28,7 @@ pub marked-examples : Holds table × Holds requests
 unfolding floorBy ceilBy minℤ maxℤ sumTo tab carry allB addI negI sumI scaleI wideI outI mulI midI meetsI insideI
     cutI sameI holdsZero squareRange squareI cubeI powerI dotI dOf unitZ entryB bOf eOf isWithin allWithin
     allOrdered alike falls inOrder goodTerm goodPlace goodTerms goodCoefs andThen badUnless firstOf onLine linesOf
-    goodUnknowns goodMatrix numberCheck unknownsCheck lowCheck highCheck inverseCheck stepsCheck equationCheck
+    oneTo goodMatrix numberCheck unknownsCheck pinCheck lowCheck highCheck inverseCheck stepsCheck equationCheck
     rowCheck sidedCheck systemCheck lineCheck jobLineStatus systemLines headLines bodyLines checkJob factorI
     termOver equationOver lowered termSlope slopeOver power termNum degree equationNum unitE vectorE linearEquation
     eigenEquation equationOf imageOf allMeet allInside cutSame cutBox decideOf imageBox stepOf runOf boxOf

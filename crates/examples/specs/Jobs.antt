@@ -7,6 +7,7 @@ use Rattle.sizes.specs.Sizes.{nMax, termsMax}
 use Rattle.lists.specs.Loops.{tab}
 use Rattle.intervals.specs.Places.{numberAt}
 use Rattle.jobs.specs.Zero.{zeroTerm, zeroEquation}
+use Rattle.jobs.specs.Parts.{lastPin}
 use Rattle.jobs.specs.declared.Kind.{Kind}
 use Rattle.jobs.specs.declared.Term.{Term}
 use Rattle.jobs.specs.declared.Equation.{Equation}
@@ -36,7 +37,7 @@ equations eqs = tab nMax (length eqs) zeroEquation (λ i. equation (getD eqs i [
 -- "Order: job, kind, n, lo, hi, inv, steps, then n lines", without the lines of the system
 abbrev head : ℕ → Kind → List ℤ → List ℤ → List (List ℤ) → ℕ → List Equation → List Row → List ℤ → Job
 head number kind lo hi inv steps eqs rows right = record {
-  head = record { number = number; kind = kind; n = length lo };
+  head = record { number = number; kind = kind; n = length lo; pin = lastPin kind (length lo) };
   ends = record { lo = numbers lo; hi = numbers hi };
   inv = matrix inv;
   steps = steps;

@@ -1,9 +1,9 @@
--- Document 01's numbers for the cases of the values' enums.
+-- The documents' numbers for the cases of the values' enums.
 use Prim.Native.Nat.{ℕ}
 use Rattle.faults.specs.declared.Fault.{Fault}
 use Rattle.faults.specs.declared.Status.{Status}
 
--- the table of "Fault numbers"
+-- document 01's table of "Fault numbers", and what document 02 adds to it
 abbrev pub faultNumber : Fault → ℕ
 faultNumber Fault.LongText = 1
 faultNumber Fault.Spelling = 2
@@ -13,6 +13,7 @@ faultNumber Fault.Crossed = 5
 faultNumber Fault.Terms = 6
 faultNumber Fault.ShortBuffer = 7
 faultNumber Fault.Steps = 8
+faultNumber Fault.Pin = 9
 
 -- "A fault returns its number and a line": 0 and 0 where there is none
 abbrev pub numberOf : Status → ℕ

@@ -3,7 +3,7 @@ ghost use mathlib.Core.Path.{_≡_};
 ghost use Rattle.faults.specs.Words.{faultNumber};
 ghost use Rattle.faults.specs.Checks.{isBad, andThen, isFine, badUnless, firstOf, onLine};
 
-// The faults 1 to 8 of document 01's table, in its order.
+// The faults 1 to 8 of document 01's table, in its order, then those of document 02.
 pub enum Fault {
     LongText,
     Spelling,
@@ -13,6 +13,7 @@ pub enum Fault {
     Terms,
     ShortBuffer,
     Steps,
+    Pin,
 }
 
 // What the check of one line finds.
@@ -45,6 +46,7 @@ pub fn fault_number(f: Fault) -> u64
         Fault::Terms => 6,
         Fault::ShortBuffer => 7,
         Fault::Steps => 8,
+        Fault::Pin => 9,
     }
 }
 

@@ -3,9 +3,9 @@ use crate::streams::write_number;
 use crate::streams::write_whole;
 use framing::HEADER;
 
-// One more with each change that may answer a text otherwise than before. 2: a square can't be negative.
+// One more with each change that may answer a text otherwise than before. 2: a square can't be negative. 3: a pin line.
 pub fn version(fd: i32) -> bool {
-    write_whole(fd, b"floodrafter 2\n")
+    write_whole(fd, b"floodrafter 3\n")
 }
 
 pub fn commands(fd: i32) -> bool {

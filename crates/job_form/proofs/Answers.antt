@@ -20,7 +20,7 @@ use Rattle.lines.proofs.Found.{status-refused}
 use Rattle.job_form.specs.JobForm.{jobForm, jobAnswer, readJob}
 use Rattle.job_form.specs.JobBytes.{jobShows, jobBytes, Spelled}
 use Rattle.job_form.specs.Live.{live}
-use Rattle.job_form.proofs.Back.{Has, Spelt}
+use Rattle.job_form.proofs.Reached.{Has, Spelt}
 use Rattle.job_form.proofs.Trips.{laws}
 use Rattle.job_form.proofs.Trips as trips
 
@@ -37,7 +37,7 @@ module _ (t : List ℕ) where
   unfolding readJob
   read-status = answer-status (read jobForm t)
 
-  whole : readJob t .status ≡ Status.Done → readJob t ≡ record { status = Status.Done; job = readJob t .job }
+  pub whole : readJob t .status ≡ Status.Done → readJob t ≡ record { status = Status.Done; job = readJob t .job }
   whole e = ap (λ (st : Status). record { status = st; job = readJob t .job }) e
 
   -- what is read without fault has none, and is written as it was

@@ -1,32 +1,30 @@
 -- A line of a job that is shown is read as the check of its values finds.
-use Prim.Native.Nat.{ℕ, _+_, _≤_, _<_, _^_}
+use Prim.Native.Nat.{ℕ, _+_, _<_}
 use native.Mathlib.Omega.{arith}
 use mathlib.Core.Path.{_≡_, refl, sym, ap, ap₂, _∙_}
-use mathlib.Core.Bool.{false, true≢false}
-use Rattle.sizes.specs.Sizes.{nMax}
+use mathlib.Core.Bool.{Bool, true, false, cond, true≢false}
 use Rattle.digits.specs.Bytes.{lineFeed}
 use Rattle.digits.specs.Number.{digitsMax}
-use Rattle.text.specs.Lists.{Small}
-use Rattle.text.specs.Words.{jobKey, nKey, loKey, hiKey, invKey, stepsKey, rowKey}
+use Rattle.text.specs.Words.{jobKey, nKey, pinKey, loKey, hiKey, invKey, stepsKey, rowKey}
 use Rattle.text.proofs.Pieces.{Above}
 use Rattle.jobs.specs.Places.{rowAt, equationAt}
 use Rattle.jobs.specs.Parts.{withSteps, withSystem}
 use Rattle.jobs.specs.Checks.{numberCheck, unknownsCheck, lowCheck, highCheck, inverseCheck, stepsCheck}
 use Rattle.jobs.specs.Checks.{systemCheck, lineCheck}
+use Rattle.jobs.specs.Lines.{afterN}
 use Rattle.jobs.proofs.CheckLaws.{unknowns-fine}
 use Rattle.jobs.specs.declared.Kind.{Kind}
 use Rattle.jobs.specs.declared.Body.{Body}
 use Rattle.jobs.specs.declared.Job.{Job}
 use Rattle.jobs.specs.declared.JobLine.{JobLine}
 use Rattle.reading.specs.Got.{after}
-use Rattle.reading.specs.Lines.{Next}
 use Rattle.reading.specs.NumberLines.{placed}
 use Rattle.reading.proofs.Told.{after-after}
 use Rattle.reading.proofs.NumberLines.{count-plain, list-plain}
 use Rattle.reading.proofs.Walk.{Law}
 use Rattle.term_round.proofs.ReadBack.{equation-above}
 use Rattle.lines.specs.Found.{found}
-use Rattle.lines.specs.Texts.{matrixList}
+use Rattle.lines.specs.Texts.{countText, matrixList}
 use Rattle.lines.proofs.Found.{found-fine}
 use Rattle.lines.proofs.Words.{kind-above, kind-back}
 use Rattle.lines.proofs.Checks.{low-small, high-small, number-spelled, steps-spelled}
@@ -34,37 +32,13 @@ use Rattle.lines.proofs.Unknowns.{unknowns-back}
 use Rattle.lines.proofs.Rows.{matrix-small}
 use Rattle.lines.proofs.Back.{number-back, steps-back, low-back, high-back, inverse-back}
 use Rattle.job_form.specs.JobForm.{afterSystem, jobSays, jobEnd, jobForm}
-use Rattle.job_form.specs.JobBytes.{systemText, jobLine, SpelledLine, jobShows}
+use Rattle.job_form.specs.JobBytes.{systemText, pinWritten, lowText, jobLine, SpelledLine, shownCheck, jobShows}
 use Rattle.job_form.specs.Live.{uptoSystem, jobUpto}
 use Rattle.job_form.proofs.Order.{first-one, after-cases}
+use Rattle.job_form.proofs.Reached.{Sized, Has, Spelt}
+use Rattle.job_form.proofs.Fourth.{leaves, after-unknowns, unknowns-has, fourth-says, fourth-spelt, fourth-has}
 use Rattle.job_form.proofs.System.{saidPut, says-is, said-back, said-spelled}
 use Rattle.job_form.proofs.System.{system-none, system-more}
-
-abbrev pub Sized : Job → Type 0
-Sized j = (0 < j .head .n) × (j .head .n ≤ nMax)
-
--- what is reached where no check before finds a fault
-abbrev pub Has : Job → JobLine → Type 0
-Has j JobLine.Number = Unit {0}
-Has j JobLine.Kind = Unit {0}
-Has j JobLine.Unknowns = Unit {0}
-Has j JobLine.Lo = Sized j
-Has j JobLine.Hi = Sized j
-Has j JobLine.Inv = Sized j
-Has j JobLine.Steps = Sized j
-Has j (JobLine.System i) = Sized j × (i < j .head .n)
-Has j JobLine.End = Sized j
-
-abbrev pub Spelt : Job → JobLine → Type 0
-Spelt j JobLine.Number = j .head .number < 10 ^ digitsMax
-Spelt j JobLine.Kind = Unit {0}
-Spelt j JobLine.Unknowns = j .head .n < 10
-Spelt j JobLine.Lo = Small (placed (j .head .n) (j .head .n) (j .ends .lo))
-Spelt j JobLine.Hi = Small (placed (j .head .n) (j .head .n) (j .ends .hi))
-Spelt j JobLine.Inv = Small (matrixList (j .inv) (j .head .n))
-Spelt j JobLine.Steps = j .steps < 10 ^ digitsMax
-Spelt j (JobLine.System i) = SpelledLine (j .head .kind) j i
-Spelt j JobLine.End = Unit {0}
 
 -- ---- the system
 
@@ -76,9 +50,6 @@ after-upto i j l =
 
 pub after-has : (i : ℕ) (j : Job) → Sized j → i < j .head .n → Has j (afterSystem i (j .head .n))
 after-has i j size l = after-cases (Has j) i (j .head .n) l (λ h. (size, h)) (λ h. size)
-
-abbrev leaves : JobLine → Job → Next JobLine Job
-leaves k j = record { kind = k; value = j }
 
 -- before the system nothing of it is read
 pub upto-none : (j : Job) → uptoSystem 0 j ≡ withSteps (jobUpto JobLine.Steps j) (j .steps)
@@ -106,7 +77,7 @@ module _ (j : Job) (i : ℕ) (size : Sized j) (l : i < j .head .n) where
 -- ---- each line
 
 pub law : (j : Job) (k : JobLine) → Has j k → jobEnd k ≡ false → Law jobForm jobShows j (Has j) (Spelt j) k
-unfolding jobSays lineCheck after
+unfolding jobSays shownCheck lineCheck after
 law j JobLine.Number h o = record {
   says = λ s. rw (number-back (j .head .number) s) (after-after (found (numberCheck (j .head .number))) _ _);
   spelt = λ e. number-spelled (j .head .number) (found-fine _ e);
@@ -118,16 +89,25 @@ law j JobLine.Kind h o = record {
   has = λ e. tt;
 }
 law j JobLine.Unknowns h o = record {
-  says = λ s. rw (unknowns-back (j .head .n) s) (after-after (found (unknownsCheck (j .head .n))) _ _);
+  says = λ s.
+      rw (unknowns-back (j .head .n) s)
+      (after-after (found (unknownsCheck (j .head .n))) _ _
+      ∙ ap (λ (x : Job). after (found (unknownsCheck (j .head .n))) (λ u. leaves (afterN (j .head .kind)) x))
+      (after-unknowns j));
   spelt = λ e. let f = unknowns-fine (j .head .n) (found-fine _ e) in omega arith;
-  has = λ e. unknowns-fine (j .head .n) (found-fine _ e);
+  has = λ e. unknowns-has j (unknowns-fine (j .head .n) (found-fine _ e));
+}
+law j JobLine.Pin h o = record {
+  says = fourth-says j (h .0) (h .1);
+  spelt = fourth-spelt j (h .0) (h .1);
+  has = λ e. fourth-has j (h .0) (h .1);
 }
 law j JobLine.Lo h o = record {
   says = λ s.
-      rw (low-back (j .head .n) (h .0) (h .1) (j .ends .lo) s)
+      rw (low-back (j .head .n) (h .0 .0) (h .0 .1) (j .ends .lo) s)
       (after-after (found (lowCheck (j .head .n) (j .ends .lo))) _ _);
   spelt = λ e. low-small (j .head .n) (j .ends .lo) (found-fine _ e);
-  has = λ e. h;
+  has = λ e. h .0;
 }
 law j JobLine.Hi h o = record {
   says = λ s.
@@ -178,6 +158,11 @@ unfolding Above
 plain j JobLine.Number = count-plain jobKey (omega arith) (j .head .number)
 plain j JobLine.Kind = kind-above (j .head .kind)
 plain j JobLine.Unknowns = count-plain nKey (omega arith) (j .head .n)
+plain j JobLine.Pin = go (pinWritten j)
+  where
+    go : (b : Bool) → Above lineFeed (cond b (countText pinKey (j .head .pin)) (lowText j))
+    go true = count-plain pinKey (omega arith) (j .head .pin)
+    go false = list-plain loKey (omega arith) digitsMax (placed (j .head .n) (j .head .n) (j .ends .lo))
 plain j JobLine.Lo = list-plain loKey (omega arith) digitsMax (placed (j .head .n) (j .head .n) (j .ends .lo))
 plain j JobLine.Hi = list-plain hiKey (omega arith) digitsMax (placed (j .head .n) (j .head .n) (j .ends .hi))
 plain j JobLine.Inv = list-plain invKey (omega arith) digitsMax (matrixList (j .inv) (j .head .n))

@@ -1,12 +1,12 @@
 -- A line of a job text that is read is the line that is shown for what it leaves.
 use Prim.Native.Nat.{ℕ, zero, suc, _+_, _≤_, _<_}
 use native.Mathlib.Omega.{arith}
-use mathlib.Core.Path.{_≡_, refl, sym, ap, ap₂, _∙_}
-use mathlib.Core.List.{List, [], _∷_, _++_, map-append}
+use mathlib.Core.Path.{_≡_, refl, sym, ap, ap₂, subst, _∙_}
+use mathlib.Core.List.{List, [], _∷_, _++_, map-append, append-assoc, append-nil}
 use mathlib.Core.Bool.{false}
 use Rattle.sizes.specs.Sizes.{nMax}
 use Rattle.faults.specs.declared.Fault.{Fault}
-use Rattle.jobs.specs.Parts.{withNumber, withKind, withUnknowns, withLo, withHi, withInverse, withSteps, withSystem}
+use Rattle.jobs.specs.Parts.{withNumber, withKind, withHi, withInverse, withSteps, withSystem}
 use Rattle.jobs.specs.Checks.{systemCheck, lineCheck}
 use Rattle.jobs.specs.declared.Body.{Body}
 use Rattle.jobs.specs.declared.Job.{Job}
@@ -18,17 +18,19 @@ use Rattle.reading.proofs.Trips.{Grown, line-same}
 use Rattle.reading.proofs.Walk.{passed-join, passed-next, passed-front, passed-rest}
 use Rattle.lines.specs.Found.{found}
 use Rattle.lines.proofs.Was.{LineWas, number-told, steps-told, kind-was}
-use Rattle.jobs.proofs.CheckLaws.{unknowns-fine}
-use Rattle.lines.proofs.Found.{found-fine}
 use Rattle.lines.proofs.Unknowns.{unknowns-told}
 use Rattle.lines.proofs.Told.{low-told, high-told, inverse-told}
 use Rattle.job_form.specs.JobForm.{afterSystem, jobSays, jobEnd}
-use Rattle.job_form.specs.JobBytes.{systemText, boxKinds, systemKinds, jobShows}
+use Rattle.job_form.specs.JobBytes.{systemText, boxKinds, systemKinds, jobPrior, shownCheck, jobShows}
 use Rattle.job_form.specs.Live.{liveSystem, uptoSystem, jobUpto}
 use Rattle.job_form.proofs.Order.{kinds-next, passed-each, each-passed, after-prior}
 use Rattle.job_form.proofs.System.{Said, saidText, saidCheck, saidLive, saidPut, text-is, check-is}
 use Rattle.job_form.proofs.System.{says-is, said-told, at-other, at-same, system-put}
-use Rattle.job_form.proofs.Back.{Sized, Has, after-upto, after-has, upto-none}
+use Rattle.job_form.proofs.Reached.{Sized, Has}
+use Rattle.job_form.proofs.Lows.{Alike, alike-lines, alike-passed}
+use Rattle.job_form.proofs.Lows.{low-alike, high-alike, inverse-alike, box-alike}
+use Rattle.job_form.proofs.FourthRead.{unknowns-grown, fourth-grows, low-grown}
+use Rattle.job_form.proofs.Back.{after-upto, after-has, upto-none}
 
 -- ---- a line of the system
 
@@ -70,6 +72,30 @@ module _ (v : Job) (i : ℕ) (l : List ℕ) (size : Sized v) (live : i < v .head
       ∙ ap₂ (λ (ls : List (List ℕ)) (y : List ℕ). ls ++ (y ∷ [])) (lines-stay m (omega arith)) (text-stays m h)
       ∙ sym (map-append _ (systemKinds m) (JobLine.System m ∷ []))
 
+  same-box : Alike v put (boxKinds v) (boxKinds put)
+  unfolding put
+  same-box = box-alike v put refl refl refl refl refl
+
+  system-alike : Alike v put (boxKinds v ++ systemKinds i) (boxKinds put ++ systemKinds i)
+  unfolding put
+  system-alike = record {
+    lines = map-append (λ k. jobShows .line k put) (boxKinds put) (systemKinds i)
+        ∙ ap₂ (λ (a b : List (List ℕ)). a ++ b) (same-box .lines) (lines-stay i (omega arith))
+        ∙ sym (map-append (λ k. jobShows .line k v) (boxKinds v) (systemKinds i));
+    passed = λ q. passed-join jobShows put (boxKinds put) (systemKinds i)
+        (same-box .passed (passed-front jobShows v (boxKinds v) (systemKinds i) q))
+        (each-passed put i (λ m h. ap found (check-stays m h)
+        ∙ passed-each v i (passed-rest jobShows v (boxKinds v) (systemKinds i) q) m h));
+  }
+
+  -- its line comes after these
+  prior-put : jobPrior (afterSystem i (v .head .n)) put ≡ (boxKinds put ++ systemKinds i) ++ (JobLine.System i ∷ [])
+  unfolding put
+  prior-put =
+      after-prior i put live
+      ∙ ap (λ (ks : List JobLine). boxKinds put ++ ks) (kinds-next i)
+      ∙ sym (append-assoc (boxKinds put) (systemKinds i) (JobLine.System i ∷ []))
+
   -- ---- what the line leaves
 
   module _ (e : LineWas (saidText (v .head .kind) (v .head .n)) (saidCheck (v .head .kind) (v .head .n))
@@ -91,22 +117,11 @@ module _ (v : Job) (i : ℕ) (l : List ℕ) (size : Sized v) (live : i < v .head
     lines-put : before jobShows (afterSystem i (v .head .n)) put ≡ before jobShows (JobLine.System i) v ++ (l ∷ [])
     unfolding put
     lines-put =
-        ap (linesOf jobShows put) (after-prior i put live ∙ ap (λ (ks : List JobLine). boxKinds ++ ks) (kinds-next i))
-        ∙ ap (λ (ls : List (List ℕ)). linesOf jobShows v boxKinds ++ ls)
-        (map-append (λ k. jobShows .line k put) (systemKinds i) (JobLine.System i ∷ [])
-        ∙ ap₂ (λ (ls : List (List ℕ)) (y : List ℕ). ls ++ (y ∷ [])) (lines-stay i (omega arith)) text-put)
+        ap (linesOf jobShows put) prior-put ∙ alike-lines v put system-alike (JobLine.System i) text-put
 
-    passed-put : Passed jobShows (boxKinds ++ systemKinds (i + 1)) put
-    unfolding put lineCheck
-    passed-put =
-        rw (kinds-next i)
-        (passed-next jobShows put (JobLine.System i)
-        (passed-join jobShows put boxKinds (systemKinds i)
-        (passed-front jobShows v boxKinds (systemKinds i) (p .passed))
-        (each-passed put i (λ m h.
-        ap found (check-stays m h)
-        ∙ passed-each v i (passed-rest jobShows v boxKinds (systemKinds i) (p .passed)) m h)))
-        check-put)
+    passed-put : Passed jobShows (jobPrior (afterSystem i (v .head .n)) put) put
+    unfolding put shownCheck lineCheck
+    passed-put = rw prior-put (alike-passed v put system-alike (JobLine.System i) (p .passed) check-put)
 
     only-put : uptoSystem (i + 1) put ≡ put
     unfolding put s
@@ -120,7 +135,7 @@ module _ (v : Job) (i : ℕ) (l : List ℕ) (size : Sized v) (live : i < v .head
     put-grown = record {
       lines = lines-put;
       kept = record {
-        passed = rw (after-prior i put live) passed-put;
+        passed = passed-put;
         only = sym (after-upto i put live) ∙ only-put;
       };
       has = after-has i put size live;
@@ -138,7 +153,7 @@ system-grows v i l p h =
 
 pub grows : (k : JobLine) (v : Job) (l : List ℕ) → jobEnd k ≡ false → Kept jobShows k v → Has v k
     → Told (Grown jobShows Has k v l) (jobSays k v l)
-unfolding jobSays lineCheck systemKinds
+unfolding jobSays shownCheck lineCheck systemKinds
 grows JobLine.Number v l o p h =
     told-after _ _ (number-told l) (λ m e. record {
       lines = line-same jobShows JobLine.Number v (e .shown);
@@ -155,47 +170,44 @@ grows JobLine.Kind v l o p h =
       has = tt;
     })
 grows JobLine.Unknowns v l o p h =
-    told-after _ _ (unknowns-told l) (λ n e. record {
-      lines = line-same jobShows JobLine.Unknowns v (e .shown);
-      kept = record {
-        passed = passed-next jobShows (withUnknowns v n) JobLine.Unknowns (p .passed) (e .fine);
-        only = ap (λ (u : Job). withUnknowns u n) (p .only);
-      };
-      has = unknowns-fine n (found-fine _ (e .fine));
-    })
+    told-after _ _ (unknowns-told l) (λ n e. unknowns-grown v l p n e)
+grows JobLine.Pin v l o p h = fourth-grows v l (h .0) (h .1) p
 grows JobLine.Lo v l o p h =
-    told-after _ _ (low-told (v .head .n) (h .0) (h .1) l) (λ xs e. record {
-      lines = line-same jobShows JobLine.Lo v (e .shown);
-      kept = record {
-        passed = passed-next jobShows (withLo v xs) JobLine.Lo (p .passed) (e .fine);
-        only = ap₂ withLo (p .only) (e .whole);
-      };
-      has = h;
-    })
+    told-after _ _ (low-told (v .head .n) (h .0 .0) (h .0 .1) l) (λ xs e. low-grown v l (h .0) xs e p (h .1))
 grows JobLine.Hi v l o p h =
-    told-after _ _ (high-told (v .head .n) (h .0) (h .1) l (v .ends .lo)) (λ xs e. record {
-      lines = line-same jobShows JobLine.Hi v (e .shown);
+    told-after _ _ (high-told (v .head .n) (h .0) (h .1) l (v .ends .lo)) (λ xs e.
+    let u = withHi v xs in
+    let a = low-alike v u refl refl in
+    record {
+      lines = alike-lines v u a JobLine.Hi (e .shown);
       kept = record {
-        passed = passed-next jobShows (withHi v xs) JobLine.Hi (p .passed) (e .fine);
+        passed = alike-passed v u a JobLine.Hi (p .passed) (e .fine);
         only = ap₂ withHi (p .only) (e .whole);
       };
       has = h;
     })
 grows JobLine.Inv v l o p h =
-    told-after _ _ (inverse-told (v .head .n) (h .0) (h .1) l) (λ rows e. record {
-      lines = line-same jobShows JobLine.Inv v (e .shown);
+    told-after _ _ (inverse-told (v .head .n) (h .0) (h .1) l) (λ rows e.
+    let u = withInverse v rows in
+    let a = high-alike v u refl refl refl in
+    record {
+      lines = alike-lines v u a JobLine.Inv (e .shown);
       kept = record {
-        passed = passed-next jobShows (withInverse v rows) JobLine.Inv (p .passed) (e .fine);
+        passed = alike-passed v u a JobLine.Inv (p .passed) (e .fine);
         only = ap₂ withInverse (p .only) (e .whole);
       };
       has = h;
     })
 grows JobLine.Steps v l o p h =
-    told-after _ _ (steps-told l) (λ m e. record {
-      lines = line-same jobShows JobLine.Steps v (e .shown);
+    told-after _ _ (steps-told l) (λ m e.
+    let u = withSteps v m in
+    let a = inverse-alike v u refl refl refl refl in
+    record {
+      lines = ap (linesOf jobShows u) (append-nil (boxKinds u)) ∙ alike-lines v u a JobLine.Steps (e .shown);
       kept = record {
-        passed = passed-next jobShows (withSteps v m) JobLine.Steps (p .passed) (e .fine);
-        only = upto-none (withSteps v m) ∙ ap (λ (u : Job). withSteps u m) (p .only);
+        passed = subst (λ (ks : List JobLine). Passed jobShows ks u) (sym (append-nil (boxKinds u)))
+            (alike-passed v u a JobLine.Steps (p .passed) (e .fine));
+        only = upto-none u ∙ ap (λ (j : Job). withSteps j m) (p .only);
       };
       has = (h, h .0);
     })

@@ -1,7 +1,12 @@
 pub mod Order
 pub mod System
+pub mod Reached
+pub mod Fourth
 pub mod Back
+pub mod Lows
+pub mod FourthRead
 pub mod Grows
 pub mod Short
 pub mod Trips
 pub mod Answers
+pub mod Before

@@ -4,13 +4,14 @@ use native.Mathlib.Omega.{arith}
 use native.Mathlib.Numerals.{add-one}
 use mathlib.Core.Path.{_≡_, refl, sym, ap, _∙_}
 use mathlib.Core.List.{List, [], _∷_, _++_, map, map-append, append-assoc, append-nil}
-use mathlib.Core.Bool.{true, cond}
+use mathlib.Core.Bool.{Bool, true, false, cond}
 use lib.Dec.{ltb}
 use lib.ListN.{length, length-append}
 use borrow.Author.Tests.{le-ltb, lt-ltb}
 use Rattle.digits.proofs.Cases.{either}
-use Rattle.jobs.specs.Lines.{jobNumber}
+use Rattle.jobs.specs.Lines.{pinLines, afterN, jobNumber}
 use Rattle.jobs.specs.Checks.{systemCheck, lineCheck}
+use Rattle.jobs.specs.declared.Kind.{Kind}
 use Rattle.jobs.specs.declared.Job.{Job}
 use Rattle.jobs.specs.declared.JobLine.{JobLine}
 use Rattle.reading.specs.Got.{Got}
@@ -18,7 +19,8 @@ use Rattle.reading.specs.Shows.{linesOf, before, Passed}
 use Rattle.reading.proofs.Walk.{Tied, passed-join, passed-front, passed-rest}
 use Rattle.lines.specs.Found.{found}
 use Rattle.job_form.specs.JobForm.{afterSystem, jobEnd, jobForm}
-use Rattle.job_form.specs.JobBytes.{systemKinds, boxKinds, jobPrior, firstSystem, jobShows}
+use Rattle.job_form.specs.JobBytes.{headKinds, boxKinds, systemKinds}
+use Rattle.job_form.specs.JobBytes.{pinWritten, jobPrior, firstSystem, shownCheck, jobShows}
 
 -- ---- the lines of the system
 
@@ -45,7 +47,7 @@ kinds-long f (suc m) =
 module _ (j : Job) where
   pub passed-each : (m : ℕ) → Passed jobShows (systemKinds m) j → (i : ℕ) → i < m
       → found (systemCheck (j .head .kind) j i) ≡ Got.got tt
-  unfolding systemKinds lineCheck
+  unfolding systemKinds shownCheck lineCheck
   passed-each zero p i l = absurd (omega arith)
   passed-each (suc m) p i l =
       let ks = systemKinds m in
@@ -57,7 +59,7 @@ module _ (j : Job) where
 
   pub each-passed : (m : ℕ) → ((i : ℕ) → i < m → found (systemCheck (j .head .kind) j i) ≡ Got.got tt)
       → Passed jobShows (systemKinds m) j
-  unfolding systemKinds lineCheck
+  unfolding systemKinds shownCheck lineCheck
   each-passed zero h = tt
   each-passed (suc m) h =
       passed-join jobShows j (systemKinds m) (JobLine.System m ∷ []) (each-passed m (λ i l. h i (omega arith)))
@@ -79,11 +81,11 @@ after-cases P i n l more end =
     (λ h. rw (le-ltb (i + 1) n h) (end (omega arith)))
 
 pub after-prior : (i : ℕ) (j : Job) → i < j .head .n
-    → jobPrior (afterSystem i (j .head .n)) j ≡ boxKinds ++ systemKinds (i + 1)
+    → jobPrior (afterSystem i (j .head .n)) j ≡ boxKinds j ++ systemKinds (i + 1)
 after-prior i j l =
-    after-cases (λ k. jobPrior k j ≡ boxKinds ++ systemKinds (i + 1)) i (j .head .n) l
+    after-cases (λ k. jobPrior k j ≡ boxKinds j ++ systemKinds (i + 1)) i (j .head .n) l
     (λ h. refl)
-    (λ h. ap (λ (m : ℕ). boxKinds ++ systemKinds m) (sym h))
+    (λ h. ap (λ (m : ℕ). boxKinds j ++ systemKinds m) (sym h))
 
 -- ---- the whole
 
@@ -91,6 +93,7 @@ pub ends : (k : JobLine) → jobEnd k ≡ true → k ≡ JobLine.End
 ends JobLine.Number e = cc
 ends JobLine.Kind e = cc
 ends JobLine.Unknowns e = cc
+ends JobLine.Pin e = cc
 ends JobLine.Lo e = cc
 ends JobLine.Hi e = cc
 ends JobLine.Inv e = cc
@@ -98,21 +101,74 @@ ends JobLine.Steps e = cc
 ends (JobLine.System i) e = cc
 ends JobLine.End e = refl
 
-system-counted : (i : ℕ) (j : Job)
-    → jobNumber (JobLine.System i) (j .head) ≡ length (linesOf jobShows j (boxKinds ++ systemKinds i)) + 1
-system-counted i j = omega (arith, kinds-long (λ k. jobShows .line k j) i)
+-- with and without a line for the pin
+abbrev lowsBy : Job → Bool → List JobLine
+lowsBy j b = headKinds ++ (afterN (j .head .kind) ∷ cond b (JobLine.Lo ∷ []) [])
+
+abbrev long : Job → List JobLine → ℕ
+long j ks = length (linesOf jobShows j ks)
+
+system-counted : (i : ℕ) (j : Job) → jobNumber (JobLine.System i) (j .head) ≡ long j (boxKinds j ++ systemKinds i) + 1
+unfolding pinLines
+system-counted i j = go (pinWritten j)
+  where
+    system : length (linesOf jobShows j (systemKinds i)) ≡ i
+    system = kinds-long (λ k. jobShows .line k j) i
+
+    go : (b : Bool) → 7 + cond b 1 0 + 1 + i
+        ≡ long j
+        ((((lowsBy j b ++ (JobLine.Hi ∷ [])) ++ (JobLine.Inv ∷ [])) ++ (JobLine.Steps ∷ [])) ++ systemKinds i) + 1
+    go true = omega (arith, system)
+    go false = omega (arith, system)
 
 -- a line's number counts the lines before it, from 1
 pub counted : (k : JobLine) (j : Job) → jobNumber k (j .head) ≡ length (before jobShows k j) + 1
+unfolding pinLines
 counted JobLine.Number j = refl
 counted JobLine.Kind j = refl
 counted JobLine.Unknowns j = refl
-counted JobLine.Lo j = refl
-counted JobLine.Hi j = refl
-counted JobLine.Inv j = refl
-counted JobLine.Steps j = refl
+counted JobLine.Pin j = refl
+counted JobLine.Lo j = go (pinWritten j)
+  where
+    go : (b : Bool) → 4 + cond b 1 0 ≡ long j (headKinds ++ cond b (JobLine.Pin ∷ []) []) + 1
+    go true = refl
+    go false = refl
+counted JobLine.Hi j = go (pinWritten j)
+  where
+    go : (b : Bool) → 5 + cond b 1 0 ≡ long j (lowsBy j b) + 1
+    go true = refl
+    go false = refl
+counted JobLine.Inv j = go (pinWritten j)
+  where
+    go : (b : Bool) → 6 + cond b 1 0 ≡ long j (lowsBy j b ++ (JobLine.Hi ∷ [])) + 1
+    go true = refl
+    go false = refl
+counted JobLine.Steps j = go (pinWritten j)
+  where
+    go : (b : Bool) → 7 + cond b 1 0 ≡ long j ((lowsBy j b ++ (JobLine.Hi ∷ [])) ++ (JobLine.Inv ∷ [])) + 1
+    go true = refl
+    go false = refl
 counted (JobLine.System i) j = system-counted i j
 counted JobLine.End j = system-counted (j .head .n) j
+
+-- how lo stands in a job: after n, since it is no eigenpair's; after an eigenpair's n, the last being pinned; after
+-- the pin
+pub data Shape (j : Job) : Type 0 where
+  plain : afterN (j .head .kind) ≡ JobLine.Lo → pinWritten j ≡ false → Shape j
+  last : j .head .kind ≡ Kind.Eigen → pinWritten j ≡ false → Shape j
+  pinned : j .head .kind ≡ Kind.Eigen → pinWritten j ≡ true → Shape j
+
+pub shape : (j : Job) → Shape j
+shape j = kinds (j .head .kind) refl
+  where
+    eigen : j .head .kind ≡ Kind.Eigen → (b : Bool) → pinWritten j ≡ b → Shape j
+    eigen e true p = Shape.pinned e p
+    eigen e false p = Shape.last e p
+
+    kinds : (k : Kind) → j .head .kind ≡ k → Shape j
+    kinds Kind.Poly e = Shape.plain (rw e) (rw e)
+    kinds Kind.Linear e = Shape.plain (rw e) (rw e)
+    kinds Kind.Eigen e = eigen e (pinWritten j) refl
 
 module _ (j : Job) where
   -- line m of the system, or the end
@@ -145,9 +201,27 @@ module _ (j : Job) where
       (tied-system m (omega arith) (JobLine.System m ∷ ks)
       (rw (from-more m h) (Tied.one {k = JobLine.System m} {ks = ks} refl (rw (from-next m) t))))
 
-  pub tied : Tied jobForm jobShows j JobLine.Number (jobPrior JobLine.End j)
-  tied =
+  abbrev system : List JobLine
+  system = systemKinds (j .head .n)
+
+  rest : Tied jobForm jobShows j JobLine.Hi (JobLine.Hi ∷ JobLine.Inv ∷ JobLine.Steps ∷ system)
+  rest =
       let none : Tied jobForm jobShows j (lineFrom (j .head .n)) [] = rw from-end Tied.none in
-      let system = rw (append-nil (systemKinds (j .head .n))) at (tied-system (j .head .n) (omega arith) [] none) in
-      Tied.one refl (Tied.one refl (Tied.one refl (Tied.one refl (Tied.one refl (Tied.one refl
-      (Tied.one {k = JobLine.Steps} {ks = systemKinds (j .head .n)} refl (rw from-first system)))))))
+      let lines = rw (append-nil system) at (tied-system (j .head .n) (omega arith) [] none) in
+      Tied.one refl (Tied.one refl (Tied.one {k = JobLine.Steps} {ks = system} refl (rw from-first lines)))
+
+  low : Shape j → Tied jobForm jobShows j (afterN (j .head .kind))
+      (afterN (j .head .kind) ∷ (((cond (pinWritten j) (JobLine.Lo ∷ []) [] ++ (JobLine.Hi ∷ [])) ++ (JobLine.Inv ∷ []))
+      ++ (JobLine.Steps ∷ [])) ++ system)
+  low (Shape.plain e b) = rw (e, b) (Tied.one refl rest)
+  low (Shape.last e b) =
+      rw (ap afterN e, b)
+      (Tied.one {k = JobLine.Pin} {ks = JobLine.Hi ∷ JobLine.Inv ∷ JobLine.Steps ∷ system} refl (rw b rest))
+  low (Shape.pinned e b) =
+      let lo : Tied jobForm jobShows j JobLine.Lo (JobLine.Lo ∷ JobLine.Hi ∷ JobLine.Inv ∷ JobLine.Steps ∷ system) =
+      Tied.one refl rest in
+      rw (ap afterN e, b)
+      (Tied.one {k = JobLine.Pin} {ks = JobLine.Lo ∷ JobLine.Hi ∷ JobLine.Inv ∷ JobLine.Steps ∷ system} refl (rw b lo))
+
+  pub tied : Tied jobForm jobShows j JobLine.Number (jobPrior JobLine.End j)
+  tied = Tied.one refl (Tied.one refl (Tied.one refl (low (shape j))))

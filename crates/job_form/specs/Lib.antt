@@ -1,3 +1,4 @@
 pub mod JobForm
 pub mod Live
 pub mod JobBytes
+pub mod Before

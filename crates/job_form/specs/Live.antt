@@ -5,7 +5,8 @@ use Rattle.sizes.specs.Sizes.{nMax}
 use Rattle.lists.specs.Loops.{tab}
 use Rattle.jobs.specs.Places.{equationAt}
 use Rattle.jobs.specs.Zero.{zeroEquation, zeroBody, noJob}
-use Rattle.jobs.specs.Parts.{withHead, withNumber, withKind, withLo, withHi, withInverse, withSteps, withSystem}
+use Rattle.jobs.specs.Parts.{withNumber, withKind, withUnknowns, withPin}
+use Rattle.jobs.specs.Parts.{withLo, withHi, withInverse, withSteps, withSystem}
 use Rattle.jobs.specs.declared.Kind.{Kind}
 use Rattle.jobs.specs.declared.Body.{Body}
 use Rattle.jobs.specs.declared.Job.{Job}
@@ -34,8 +35,17 @@ uptoKind j = withNumber noJob (j .head .number)
 abbrev pub uptoUnknowns : Job → Job
 uptoUnknowns j = withKind (uptoKind j) (j .head .kind)
 
+abbrev pub uptoPin : Job → Job
+uptoPin j = withUnknowns (uptoUnknowns j) (j .head .n)
+
+-- the pin that a reader leaves: none but in an eigenpair's job
+abbrev pub livePin : Kind → ℕ → ℕ
+livePin Kind.Poly pin = 0
+livePin Kind.Linear pin = 0
+livePin Kind.Eigen pin = pin
+
 abbrev pub uptoLow : Job → Job
-uptoLow j = withHead noJob (j .head)
+uptoLow j = withPin (uptoPin j) (livePin (j .head .kind) (j .head .pin))
 
 abbrev pub uptoHigh : Job → Job
 uptoHigh j = withLo (uptoLow j) (placed nMax (j .head .n) (j .ends .lo))
@@ -55,6 +65,7 @@ abbrev pub jobUpto : JobLine → Job → Job
 jobUpto JobLine.Number j = noJob
 jobUpto JobLine.Kind j = uptoKind j
 jobUpto JobLine.Unknowns j = uptoUnknowns j
+jobUpto JobLine.Pin j = uptoPin j
 jobUpto JobLine.Lo j = uptoLow j
 jobUpto JobLine.Hi j = uptoHigh j
 jobUpto JobLine.Inv j = uptoInverse j

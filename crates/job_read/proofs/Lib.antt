@@ -1,3 +1,4 @@
 pub mod Lines
+pub mod Pins
 pub mod Passing
 pub mod Systems

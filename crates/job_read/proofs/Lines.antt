@@ -9,7 +9,7 @@ use Rattle.faults.specs.Checks.{isBad, onLine}
 use Rattle.jobs.specs.declared.Head.{Head}
 use Rattle.jobs.specs.declared.Job.{Job}
 use Rattle.jobs.specs.declared.JobLine.{JobLine}
-use Rattle.jobs.specs.Lines.{jobNumber}
+use Rattle.jobs.specs.Lines.{afterN, jobNumber}
 use Rattle.jobs.specs.Parts.{withNumber, withKind, withUnknowns, withLo, withHi, withInverse, withSteps}
 use Rattle.jobs.proofs.CheckLaws.{unknowns-fine}
 use Rattle.reading.specs.Got.{Got, after}
@@ -19,17 +19,17 @@ use Rattle.lines.specs.Lines.{numberOf, kindOf, unknownsOf, lowOf, highOf, inve
 use Rattle.lines.proofs.Found.{found-fine}
 use Rattle.line_read.specs.declared.CountLine.{CountLine}
 use Rattle.line_read.specs.declared.KindLine.{KindLine}
-use Rattle.line_read.specs.declared.UnknownsLine.{UnknownsLine}
+use Rattle.line_read.specs.declared.SmallLine.{SmallLine}
 use Rattle.line_read.specs.declared.CellsLine.{CellsLine}
 use Rattle.line_read.specs.declared.RowsLine.{RowsLine}
-use Rattle.line_read.specs.At.{said, onward, countAt, kindAt, unknownsAt, cellsAt, rowsAt}
+use Rattle.line_read.specs.At.{said, onward, countAt, kindAt, smallAt, cellsAt, rowsAt}
 use Rattle.line_read.specs.States.{Leads}
-use Rattle.line_read.proofs.Tells.{count-tells, kind-tells, unknowns-tells, cells-tells, rows-tells}
+use Rattle.line_read.proofs.Tells.{count-tells, kind-tells, small-tells, cells-tells, rows-tells}
 use Rattle.line_read.proofs.Ways.{line-leads, line-passed, leads-stop}
 use Rattle.job_form.specs.JobForm.{jobForm, jobSays}
 use Rattle.jobs.specs.Zero.{noJob}
 use Rattle.job_read.specs.declared.HeadAt.{HeadAt}
-use Rattle.job_read.specs.Parts.{Whole, HeadFrom}
+use Rattle.job_read.specs.Parts.{Whole, NamesFrom, HeadFrom}
 
 module _ (t : List ℕ) (j : Job) (a : ℕ) (h : a ≤ length t) {m : ℕ} {st : Status} where
   pub number-leads : {r : CountLine} → r ≡ countAt (said numberOf t a) (onward t a) → st ≡ onLine (r .found) m
@@ -56,13 +56,13 @@ module _ (t : List ℕ) (j : Job) (a : ℕ) (h : a ≤ length t) {m : ℕ} {st :
       })
       refl (kind-tells _ _ e)
 
-  pub unknowns-leads : {r : UnknownsLine} → r ≡ unknownsAt (said unknownsOf t a) (onward t a)
+  pub unknowns-leads : {r : SmallLine} → r ≡ smallAt (said unknownsOf t a) (onward t a)
       → st ≡ onLine (r .found) m → m ≡ jobNumber JobLine.Unknowns (j .head)
-      → Leads jobForm t a JobLine.Unknowns j st JobLine.Lo (withUnknowns j (r .n)) (r .next)
+      → Leads jobForm t a JobLine.Unknowns j st (afterN (j .head .kind)) (withUnknowns j (r .small)) (r .next)
   unfolding jobSays
   unknowns-leads e =
       line-leads jobForm t JobLine.Unknowns j a h refl unknownsOf
-      (λ x. record { kind = JobLine.Lo; value = withUnknowns j x }) refl (unknowns-tells _ _ e)
+      (λ x. record { kind = afterN (j .head .kind); value = withUnknowns j x }) refl (small-tells _ _ e)
 
   -- the lines of the box, where the head is known
   module _ (head : Head) (p : j .head ≡ head) where
@@ -112,19 +112,24 @@ module _ (t : List ℕ) (j : Job) (a : ℕ) (h : a ≤ length t) {m : ℕ} {st :
         (count-tells _ _ e) q (w ∙ ap (jobNumber JobLine.Steps) (sym p))
 
 -- "n: 1 to 4"
-pub unknowns-whole : (t : List ℕ) (a m : ℕ) {st : Status} {r : UnknownsLine} {head : Head}
-    → r ≡ unknownsAt (said unknownsOf t a) (onward t a) → st ≡ onLine (r .found) m → head .n ≡ r .n → isBad st ≡ false
+pub unknowns-whole : (t : List ℕ) (a m : ℕ) {st : Status} {r : SmallLine} {head : Head}
+    → r ≡ smallAt (said unknownsOf t a) (onward t a) → st ≡ onLine (r .found) m → head .n ≡ r .small → isBad st ≡ false
     → Whole head
 unfolding unknownsOf
 unknowns-whole t a m {st} {r} {head} e q n good =
-    let p = unknowns-fine (r .n) (found-fine _ (line-passed _ _ t a m (unknowns-tells _ _ e) q good)) in
+    let p = unknowns-fine (r .small) (found-fine _ (line-passed _ _ t a m (small-tells _ _ e) q good)) in
     record { some = rw n (p .0); few = rw n (p .1) }
 
 -- a bad line of the head
-pub head-stop : {t : List ℕ} {st : Status} {k : JobLine} {v : Job} {b : ℕ} {r : HeadAt}
-    → Leads jobForm t 0 JobLine.Number noJob st k v b → isBad st ≡ true → (r .status ≡ st) × (r .next ≡ 0)
-    → HeadFrom t r
-head-stop w bad e = record {
-  leads = leads-stop _ _ w _ _ bad e;
-  whole = λ good. absurd (true≢false (sym bad ∙ ap isBad (sym (e .0)) ∙ good));
-}
+module _ {t : List ℕ} {st : Status} {k : JobLine} {v : Job} {b : ℕ} {r : HeadAt}
+    (w : Leads jobForm t 0 JobLine.Number noJob st k v b) (bad : isBad st ≡ true) (e : (r .status ≡ st) × (r .next ≡ 0))
+  where
+    pub names-stop : NamesFrom t r
+    names-stop = record {
+      leads = leads-stop _ _ w _ _ bad e;
+      whole = λ good. absurd (true≢false (sym bad ∙ ap isBad (sym (e .0)) ∙ good));
+      last = λ good. absurd (true≢false (sym bad ∙ ap isBad (sym (e .0)) ∙ good));
+    }
+
+    pub head-stop : HeadFrom t r
+    head-stop = record { leads = leads-stop _ _ w _ _ bad e; whole = names-stop .whole }

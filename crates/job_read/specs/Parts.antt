@@ -6,13 +6,14 @@ use mathlib.Core.List.{List}
 use Rattle.sizes.specs.Sizes.{nMax}
 use Rattle.faults.specs.declared.Status.{Status}
 use Rattle.faults.specs.Checks.{isBad, onLine}
+use Rattle.jobs.specs.declared.Kind.{Kind}
 use Rattle.jobs.specs.declared.Body.{Body}
 use Rattle.jobs.specs.declared.Head.{Head}
 use Rattle.jobs.specs.declared.Job.{Job}
 use Rattle.jobs.specs.declared.JobLine.{JobLine}
-use Rattle.jobs.specs.Lines.{jobNumber}
+use Rattle.jobs.specs.Lines.{afterN, jobNumber}
 use Rattle.jobs.specs.Zero.{zeroBody, noJob}
-use Rattle.jobs.specs.Parts.{withHead, withEnds, withInverse, withSteps, withSystem}
+use Rattle.jobs.specs.Parts.{lastPin, withHead, withEnds, withInverse, withSteps, withSystem}
 use Rattle.line_read.specs.States.{Leads}
 use Rattle.job_form.specs.declared.JobRead.{JobRead}
 use Rattle.job_form.specs.JobForm.{jobForm, afterSystem}
@@ -27,6 +28,25 @@ pub record Whole (head : Head) : Type 0 where
   pub some : 0 < head .n
   pub few : head .n ≤ nMax
 
+-- an eigenpair's head of which n is the last that is read
+pub record Unpinned (head : Head) : Type 0 where
+  pub kind : head .kind ≡ Kind.Eigen
+  pub last : head .pin ≡ head .n
+
+-- job, kind and n
+pub record NamesFrom (t : List ℕ) (r : HeadAt) : Type 0 where
+  pub leads : Leads jobForm t 0 JobLine.Number noJob (r .status) (afterN (r .head .kind)) (withHead noJob (r .head))
+      (r .next)
+  pub whole : isBad (r .status) ≡ false → Whole (r .head)
+  pub last : isBad (r .status) ≡ false → r .head .pin ≡ lastPin (r .head .kind) (r .head .n)
+
+-- the pin, where it is written
+pub record PinFrom (t : List ℕ) (a : ℕ) (head : Head) (r : HeadAt) : Type 0 where
+  pub leads : (j : Job) → j .head ≡ head
+      → Leads jobForm t a JobLine.Pin j (r .status) JobLine.Lo (withHead j (r .head)) (r .next)
+  pub same : r .head .n ≡ head .n
+
+-- the lines before lo
 pub record HeadFrom (t : List ℕ) (r : HeadAt) : Type 0 where
   pub leads : Leads jobForm t 0 JobLine.Number noJob (r .status) JobLine.Lo (withHead noJob (r .head)) (r .next)
   pub whole : isBad (r .status) ≡ false → Whole (r .head)

@@ -7,11 +7,14 @@ use faults::on_line;
 use jobs::Ends;
 use jobs::Head;
 use jobs::JobLine;
+use jobs::Kind;
 use jobs::lines::job_line_number;
 use jobs::zero::zero_ends;
 use jobs::zero::zero_head;
 use jobs::zero::zero_row;
 use line_read::counts::number_line;
+use line_read::counts::pin_line;
+use line_read::counts::pin_stands;
 use line_read::counts::steps_line;
 use line_read::counts::unknowns_line;
 use line_read::words::kind_line;
@@ -23,7 +26,8 @@ ghost use mathlib.Core.Path.{_≡_};
 ghost use Prim.Native.Nat.{_≤_};
 ghost use lib.ListN.{length};
 ghost use Rattle.sizes.specs.Sizes.{nMax};
-ghost use Rattle.job_read.specs.Parts.{HeadFrom, BoxFrom};
+ghost use Rattle.jobs.specs.Parts.{lastPin};
+ghost use Rattle.job_read.specs.Parts.{Unpinned, NamesFrom, PinFrom, HeadFrom, BoxFrom};
 
 fn no_head(status: Status) -> HeadAt
     ensures { λ r. ⌜ (r .status ≡ status) × (r .next ≡ 0) ⌝ }
@@ -35,9 +39,20 @@ fn no_head(status: Status) -> HeadAt
     }
 }
 
+// The pin where no line says it: n in an eigenpair's job.
+fn last_pin(kind: Kind, n: usize) -> usize
+    ensures { λ r. ⌜ r ≡ lastPin kind n ⌝ }
+{
+    match kind {
+        Kind::Poly => 0,
+        Kind::Linear => 0,
+        Kind::Eigen => n,
+    }
+}
+
 // "job, kind, n"
-pub fn head_at(text: &[u8]) -> HeadAt
-    ensures { λ r. ⌜ HeadFrom (now (text .entry)) r ⌝ }
+fn names_at(text: &[u8]) -> HeadAt
+    ensures { λ r. ⌜ NamesFrom (now (text .entry)) r ⌝ }
 {
     let none = zero_head();
     let j = number_line(text, 0);
@@ -60,9 +75,55 @@ pub fn head_at(text: &[u8]) -> HeadAt
         head: Head {
             number: j.count,
             kind,
-            n: u.n,
+            n: u.small,
+            pin: last_pin(kind, u.small),
         },
         next: u.next,
+    }
+}
+
+// An eigenpair's pin where it is written; where it is not, no line is read.
+fn pin_at(text: &[u8], from: usize, head: Head) -> HeadAt
+    requires { ⌜ (from ≤ length (now text)) × Unpinned head ⌝ }
+    ensures { λ r. ⌜ PinFrom (now (text .entry)) from head r ⌝ }
+{
+    if !pin_stands(text, from) {
+        return HeadAt {
+            status: Status::Done,
+            head,
+            next: from,
+        };
+    }
+    let p = pin_line(text, from, head.n);
+    let found = p.found;
+    let kind = head.kind;
+    HeadAt {
+        status: on_line(found, job_line_number(JobLine::Pin, head)),
+        head: Head {
+            number: head.number,
+            kind,
+            n: head.n,
+            pin: p.small,
+        },
+        next: p.next,
+    }
+}
+
+// The lines before lo.
+pub fn head_at(text: &[u8]) -> HeadAt
+    ensures { λ r. ⌜ HeadFrom (now (text .entry)) r ⌝ }
+{
+    let h = names_at(text);
+    let named = h.status;
+    if is_bad(named) {
+        return no_head(named);
+    }
+    let head = h.head;
+    let kind = head.kind;
+    match kind {
+        Kind::Poly => h,
+        Kind::Linear => h,
+        Kind::Eigen => pin_at(text, h.next, head),
     }
 }
 

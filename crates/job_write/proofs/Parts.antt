@@ -10,37 +10,54 @@ use Rattle.digits.proofs.Cases.{either}
 use Rattle.text.specs.Cut.{endEach}
 use Rattle.faults.specs.declared.Status.{Status}
 use Rattle.jobs.specs.Checks.{checkJob}
+use Rattle.jobs.specs.Lines.{afterN}
 use Rattle.jobs.specs.Accepted.{GoodSystem}
 use Rattle.jobs.specs.declared.Kind.{Kind}
 use Rattle.jobs.specs.declared.Job.{Job}
 use Rattle.jobs.specs.declared.JobLine.{JobLine}
 use Rattle.reading.specs.Lines.{bytes}
-use Rattle.reading.specs.Shows.{linesOf}
+use Rattle.reading.specs.Shows.{linesOf, shown}
 use Rattle.writing.specs.Wrote.{line}
 use Rattle.writing.proofs.Lines.{end-length, end-append, end-none}
-use Rattle.job_form.specs.JobBytes.{systemText, jobLine, systemKinds, jobShows, jobBytes}
-use Rattle.job_form.proofs.Order.{kinds-next}
+use Rattle.job_form.specs.JobBytes.{systemText, jobLine, headKinds, systemKinds, jobShows, jobBytes}
+use Rattle.job_form.proofs.Order.{kinds-next, Shape, shape}
 use Rattle.job_form.proofs.Trips.{job-short}
-use Rattle.job_write.specs.Parts.{linesBytes, headKinds, bodyKinds}
+use Rattle.job_write.specs.Parts.{linesBytes, pinTexts, bodyKinds}
 
 module _ (j : Job) where
   abbrev systemLines : List (List ℕ)
   systemLines = linesOf jobShows j (systemKinds (j .head .n))
 
-  -- "Order: job, kind, n, lo, hi, inv, steps, then n lines."
-  pub job-parts : linesBytes j headKinds ++ (linesBytes j bodyKinds ++ bytes systemLines) ≡ jobBytes j
+  abbrev body : List (List ℕ)
+  body = linesOf jobShows j bodyKinds
+
+  -- "Order: job, kind, n, lo, hi, inv, steps, then n lines", the pin after n
+  lines-are : linesOf jobShows j headKinds ++ (pinTexts j ++ (body ++ systemLines)) ≡ shown jobShows j
+  lines-are = go (shape j)
+    where
+      go : Shape j → linesOf jobShows j headKinds ++ (pinTexts j ++ (body ++ systemLines)) ≡ shown jobShows j
+      go (Shape.plain e b) = rw (e, b)
+      go (Shape.last e b) = rw (ap afterN e, b)
+      go (Shape.pinned e b) = rw (ap afterN e, b)
+
+  pub job-parts : linesBytes j headKinds ++ (bytes (pinTexts j) ++ (bytes body ++ bytes systemLines)) ≡ jobBytes j
   job-parts =
-      ap (λ (t : List ℕ). linesBytes j headKinds ++ t) (sym (end-append (linesOf jobShows j bodyKinds) systemLines))
-      ∙ sym (end-append (linesOf jobShows j headKinds) (linesOf jobShows j bodyKinds ++ systemLines))
+      ap (λ (t : List ℕ). linesBytes j headKinds ++ (bytes (pinTexts j) ++ t)) (sym (end-append body systemLines))
+      ∙ ap (λ (t : List ℕ). linesBytes j headKinds ++ t) (sym (end-append (pinTexts j) (body ++ systemLines)))
+      ∙ sym (end-append (linesOf jobShows j headKinds) (pinTexts j ++ (body ++ systemLines)))
+      ∙ ap bytes lines-are
 
   pub parts-short : checkJob j ≡ Status.Done
-      → length (linesBytes j headKinds) + (length (linesBytes j bodyKinds) + length (bytes systemLines)) ≤ textMax
+      → length (linesBytes j headKinds)
+      + (length (bytes (pinTexts j)) + (length (bytes body) + length (bytes systemLines)))
+      ≤ textMax
   parts-short e =
       omega (
         arith,
         ap length job-parts,
-        length-append (linesBytes j headKinds) (linesBytes j bodyKinds ++ bytes systemLines),
-        length-append (linesBytes j bodyKinds) (bytes systemLines),
+        length-append (linesBytes j headKinds) (bytes (pinTexts j) ++ (bytes body ++ bytes systemLines)),
+        length-append (bytes (pinTexts j)) (bytes body ++ bytes systemLines),
+        length-append (bytes body) (bytes systemLines),
         job-short j e,
       )
 

@@ -11,8 +11,9 @@ ghost use Rattle.writing.specs.Wrote.{Wrote, line};
 ghost use Rattle.faults.specs.Answer.{Leaves};
 ghost use Rattle.faults.specs.declared.Status.{Status};
 ghost use Rattle.lines.specs.Texts.{kindText};
-ghost use Rattle.job_form.specs.JobBytes.{jobBytes};
-ghost use Rattle.job_write.specs.Parts.{linesBytes, headKinds, bodyKinds, PartFits};
+ghost use Rattle.reading.specs.Lines.{bytes};
+ghost use Rattle.job_form.specs.JobBytes.{headKinds, jobBytes};
+ghost use Rattle.job_write.specs.Parts.{linesBytes, pinTexts, bodyKinds, PinFits, PartFits};
 use digits::DIGITS;
 use faults::Fault;
 use faults::Status;
@@ -20,6 +21,7 @@ use faults::Written;
 use jobs::Job;
 use jobs::Kind;
 use jobs::checks::check_job;
+use jobs::lines::pin_written;
 use rows::put_inverse_line;
 use system::put_system;
 use writing::put_count_line;
@@ -48,6 +50,17 @@ fn put_head(buf: &mut [u8], at: usize, j: Job) -> usize
     put_count_line(buf, b, b"n=", j.head.n as u64)
 }
 
+// An eigenpair's pin, where it is not n.
+fn put_pin(buf: &mut [u8], at: usize, j: Job) -> usize
+    requires { ⌜ PinFits at j ⌝ }
+    ensures { λ r. ⌜ Wrote (now (buf .entry)) (now (buf .exit)) at r (bytes (pinTexts j)) ⌝ }
+{
+    if pin_written(j.head) {
+        return put_count_line(buf, at, b"pin=", j.head.pin as u64);
+    }
+    at
+}
+
 fn put_body(buf: &mut [u8], at: usize, j: Job) -> usize
     requires { ⌜ PartFits at j bodyKinds ⌝ }
     ensures { λ r. ⌜ Wrote (now (buf .entry)) (now (buf .exit)) at r (linesBytes j bodyKinds) ⌝ }
@@ -68,8 +81,9 @@ fn put_job(buf: &mut [u8], j: Job) -> usize
     ensures { λ r. ⌜ Wrote (now (buf .entry)) (now (buf .exit)) 0 r (jobBytes j) ⌝ }
 {
     let a = put_head(buf, 0, j);
-    let b = put_body(buf, a, j);
-    put_system(buf, b, j)
+    let b = put_pin(buf, a, j);
+    let c = put_body(buf, b, j);
+    put_system(buf, c, j)
 }
 
 // The text of a job whose check found nothing, for any buffer. The same writer on a buffer of one byte measures it

@@ -18,12 +18,12 @@ use Rattle.faults.specs.declared.Finding.{Finding}
 use Rattle.faults.specs.declared.Status.{Status}
 use Rattle.jobs.specs.Places.{expOf, termAt, rowAt}
 use Rattle.jobs.specs.Terms.{alike, falls, inOrder, degree, goodTerm, goodPlace, goodTerms, goodCoefs}
-use Rattle.jobs.specs.Checks.{goodUnknowns, goodMatrix}
-use Rattle.jobs.specs.Checks.{numberCheck, unknownsCheck, lowCheck, highCheck, inverseCheck, stepsCheck}
-use Rattle.jobs.specs.Checks.{equationCheck, rowCheck, sidedCheck, systemCheck, lineCheck}
-use Rattle.jobs.specs.Checks.{jobLineStatus, systemLines, headLines, bodyLines, checkJob}
-use Rattle.jobs.specs.Accepted.{Falls, GoodEquation, GoodSystem, Accepted}
-use Rattle.jobs.proofs.RangeLaws.{and-left, and-right, each-all, is-within, within-is}
+use Rattle.jobs.specs.Checks.{goodMatrix}
+use Rattle.jobs.specs.Checks.{numberCheck, unknownsCheck, pinCheck, lowCheck, highCheck}
+use Rattle.jobs.specs.Checks.{inverseCheck, stepsCheck, equationCheck, rowCheck, sidedCheck, systemCheck}
+use Rattle.jobs.specs.Checks.{lineCheck, jobLineStatus, systemLines, headLines, bodyLines, checkJob}
+use Rattle.jobs.specs.Accepted.{Falls, GoodEquation, GoodSystem, GoodPin, Accepted}
+use Rattle.jobs.proofs.RangeLaws.{and-left, and-right, one-to, to-one, each-all, is-within, within-is}
 use Rattle.jobs.proofs.RangeLaws.{all-within, within-all, all-ordered, ordered-all}
 use Rattle.jobs.proofs.TermLaws.{falls-lower, abs-zero}
 use Rattle.faults.proofs.Laws.{fine-first, fine-next, both-fine, unless-fine, fine-unless, fine-line, line-fine}
@@ -103,6 +103,19 @@ module _ (q : Equation) (n : ℕ) where
           rw (ne-eqb (natAbs (termAt q k .coef)) 0 (λ z. g .nonzero k l (abs-zero (termAt q k .coef) z)))
           (rw (le-leb (degree n (expOf (termAt q k))) degreeMax (g .deg k l)) (order k l))
 
+-- ---- the pin
+pin-good : (kind : Kind) (n pin : ℕ) → pinCheck kind n pin ≡ Finding.Fine → GoodPin kind n pin
+unfolding pinCheck
+pin-good Kind.Poly n pin e = tt
+pin-good Kind.Linear n pin e = tt
+pin-good Kind.Eigen n pin e = one-to n pin (unless-fine _ Fault.Pin e)
+
+good-pin : (kind : Kind) (n pin : ℕ) → GoodPin kind n pin → pinCheck kind n pin ≡ Finding.Fine
+unfolding pinCheck
+good-pin Kind.Poly n pin g = refl
+good-pin Kind.Linear n pin g = refl
+good-pin Kind.Eigen n pin g = fine-unless Fault.Pin (to-one n pin (g .0) (g .1))
+
 -- ---- a line of the system
 system-good : (kind : Kind) (j : Job) (i : ℕ) → systemCheck kind j i ≡ Finding.Fine → GoodSystem kind j i
 unfolding systemCheck equationCheck rowCheck sidedCheck
@@ -130,6 +143,7 @@ good-system Kind.Eigen j i g = fine-unless Fault.Beyond (within-all _ (j .head .
 pub record Clean (j : Job) : Type 0 where
   pub number : numberCheck (j .head .number) ≡ Finding.Fine
   pub unknowns : unknownsCheck (j .head .n) ≡ Finding.Fine
+  pub pin : pinCheck (j .head .kind) (j .head .n) (j .head .pin) ≡ Finding.Fine
   pub low : lowCheck (j .head .n) (j .ends .lo) ≡ Finding.Fine
   pub high : highCheck (j .head .n) (j .ends .lo) (j .ends .hi) ≡ Finding.Fine
   pub inverse : inverseCheck (j .head .n) (j .inv) ≡ Finding.Fine
@@ -140,6 +154,7 @@ pub check-clean : (j : Job) → checkJob j ≡ Status.Done → Clean j
 unfolding checkJob headLines bodyLines systemLines jobLineStatus lineCheck
 check-clean j e =
     let head = done-first _ _ e in
+    let unknowns = done-next _ _ (done-next _ _ head) in
     let low = done-next _ _ e in
     let high = done-next _ _ low in
     let inverse = done-next _ _ high in
@@ -147,7 +162,8 @@ check-clean j e =
     let system = done-next _ _ steps in
     record {
       number = fine-line _ _ (done-first _ _ head);
-      unknowns = fine-line _ _ (done-next _ _ (done-next _ _ head));
+      unknowns = fine-line _ _ (done-first _ _ unknowns);
+      pin = fine-line _ _ (done-next _ _ unknowns);
       low = fine-line _ _ (done-first _ _ low);
       high = fine-line _ _ (done-first _ _ high);
       inverse = fine-line _ _ (done-first _ _ inverse);
@@ -158,7 +174,8 @@ check-clean j e =
 pub clean-check : (j : Job) → Clean j → checkJob j ≡ Status.Done
 unfolding checkJob headLines bodyLines systemLines jobLineStatus lineCheck
 clean-check j c =
-    both-done (both-done (line-fine _ (c .number)) (both-done (line-fine _ refl) (line-fine _ (c .unknowns))))
+    both-done (both-done (line-fine _ (c .number))
+    (both-done (line-fine _ refl) (both-done (line-fine _ (c .unknowns)) (line-fine _ (c .pin)))))
     (both-done (line-fine _ (c .low))
     (both-done (line-fine _ (c .high))
     (both-done (line-fine _ (c .inverse))
@@ -174,6 +191,7 @@ check-done j e =
       number = leb-true (j .head .number) numberMax (unless-fine _ Fault.Beyond (c .number));
       some = n .0;
       few = n .1;
+      pin = pin-good (j .head .kind) (j .head .n) (j .head .pin) (c .pin);
       low = all-within (j .ends .lo) (j .head .n) endMax (unless-fine _ Fault.Beyond (c .low));
       high = all-within (j .ends .hi) (j .head .n) endMax (unless-fine _ Fault.Beyond (fine-first _ _ (c .high)));
       ordered =
@@ -186,10 +204,11 @@ check-done j e =
 
 -- and in an accepted job they find nothing
 pub done-check : (j : Job) → Accepted j → checkJob j ≡ Status.Done
-unfolding numberCheck unknownsCheck goodUnknowns lowCheck highCheck inverseCheck goodMatrix stepsCheck
+unfolding numberCheck unknownsCheck lowCheck highCheck inverseCheck goodMatrix stepsCheck
 done-check j a = clean-check j (record {
   number = fine-unless Fault.Beyond (le-leb (j .head .number) numberMax (a .number));
-  unknowns = fine-unless Fault.Unknowns (rw (le-leb 1 (j .head .n) (a .some), le-leb (j .head .n) nMax (a .few)));
+  unknowns = fine-unless Fault.Unknowns (to-one nMax (j .head .n) (a .some) (a .few));
+  pin = good-pin (j .head .kind) (j .head .n) (j .head .pin) (a .pin);
   low = fine-unless Fault.Beyond (within-all (j .ends .lo) (j .head .n) endMax (a .low));
   high = both-fine (fine-unless Fault.Beyond (within-all (j .ends .hi) (j .head .n) endMax (a .high)))
       (fine-unless Fault.Crossed (ordered-all (j .ends .lo) (j .ends .hi) (j .head .n) (a .ordered)));

@@ -2,9 +2,11 @@
 use mathlib.Core.Path.{_≡_, refl}
 use mathlib.Core.Bool.{Bool, true, false, _&&_}
 use mathlib.Core.List.{List}
-use Prim.Native.Nat.{ℕ, zero, suc, _<_}
+use Prim.Native.Nat.{ℕ, zero, suc, _≤_, _<_}
 use native.Mathlib.Omega.{arith}
+use lib.Dec.{leb}
 use lib.ListN.{getD}
+use borrow.Author.Tests.{leb-true, le-leb}
 use lib.IntN.{ℤ, pos, negℤ}
 use lib.Signed.{_≤ℤ_, leZ}
 use Rattle.integers.specs.Ranges.{Within}
@@ -12,7 +14,7 @@ use Rattle.integers.proofs.Ranges.{within, within-lo, within-hi}
 use Rattle.integers.proofs.Order.{leZ-true, le-leZ}
 use Rattle.lists.specs.Loops.{allB}
 use Rattle.lists.proofs.All.{all-each}
-use Rattle.jobs.specs.Ranges.{isWithin, allWithin, allOrdered}
+use Rattle.jobs.specs.Ranges.{oneTo, isWithin, allWithin, allOrdered}
 
 -- both of two tests
 pub and-left : (a b : Bool) → a && b ≡ true → a ≡ true
@@ -23,6 +25,16 @@ pub and-right : (a b : Bool) → a && b ≡ true → b ≡ true
 and-right true b e = e
 and-right false true e = refl
 and-right false false e = e
+
+-- from 1 to most
+pub one-to : (most m : ℕ) → oneTo most m ≡ true → (1 ≤ m) × (m ≤ most)
+unfolding oneTo
+one-to most m e =
+    (leb-true 1 m (and-left (leb 1 m) (leb m most) e), leb-true m most (and-right (leb 1 m) (leb m most) e))
+
+pub to-one : (most m : ℕ) → 1 ≤ m → m ≤ most → oneTo most m ≡ true
+unfolding oneTo
+to-one most m some few = rw (le-leb 1 m some, le-leb m most few)
 
 -- a test of every place, from each
 pub each-all : (p : ℕ → Bool) (n : ℕ) → ((i : ℕ) → i < n → p i ≡ true) → allB n p ≡ true

@@ -42,10 +42,17 @@ GoodSystem Kind.Linear j i =
     AllWithin (rowAt (j .system .rows) i) (j .head .n) entryMax × Within (getD (j .system .right) i (pos 0)) entryMax
 GoodSystem Kind.Eigen j i = AllWithin (rowAt (j .system .rows) i) (j .head .n) entryMax
 
+-- the pin: 1 to n in an eigenpair's job, and anything in the others
+abbrev pub GoodPin : Kind → ℕ → ℕ → Type 0
+GoodPin Kind.Poly n pin = Unit {0}
+GoodPin Kind.Linear n pin = Unit {0}
+GoodPin Kind.Eigen n pin = (1 ≤ pin) × (pin ≤ n)
+
 pub record Accepted (j : Job) : Type 0 where
   pub number : j .head .number ≤ numberMax
   pub some : 1 ≤ j .head .n
   pub few : j .head .n ≤ nMax
+  pub pin : GoodPin (j .head .kind) (j .head .n) (j .head .pin)
   pub low : AllWithin (j .ends .lo) (j .head .n) endMax
   pub high : AllWithin (j .ends .hi) (j .head .n) endMax
   pub ordered : (i : ℕ) → i < j .head .n → getD (j .ends .lo) i (pos 0) ≤ℤ getD (j .ends .hi) i (pos 0)

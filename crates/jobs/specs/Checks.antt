@@ -3,7 +3,7 @@
 -- the same line order".
 -- Each kind of line has its check, over values; the text's reader has the same.
 use Prim.Native.Nat.{ℕ}
-use mathlib.Core.Bool.{Bool, _&&_}
+use mathlib.Core.Bool.{Bool}
 use mathlib.Core.List.{List}
 use lib.Dec.{leb}
 use lib.ListN.{getD}
@@ -21,12 +21,12 @@ use Rattle.faults.specs.declared.Finding.{Finding}
 use Rattle.faults.specs.declared.Status.{Status}
 use Rattle.jobs.specs.Lines.{jobNumber}
 use Rattle.jobs.specs.Places.{equationAt, rowAt}
-use Rattle.jobs.specs.Ranges.{isWithin, allWithin, allOrdered}
+use Rattle.jobs.specs.Ranges.{oneTo, isWithin, allWithin, allOrdered}
 use Rattle.jobs.specs.Terms.{goodCoefs, goodTerms}
 
 -- "n: 1 to 4"
-unfoldable pub goodUnknowns : ℕ → Bool
-goodUnknowns n = leb 1 n && leb n nMax
+abbrev pub goodUnknowns : ℕ → Bool
+goodUnknowns n = oneTo nMax n
 
 -- "Box ends: -262,144 to 262,144"
 abbrev pub goodEnds : List ℤ → ℕ → Bool
@@ -47,6 +47,16 @@ numberCheck number = badUnless (leb number numberMax) Fault.Beyond
 
 unfoldable pub unknownsCheck : ℕ → Finding
 unknownsCheck n = badUnless (goodUnknowns n) Fault.Unknowns
+
+-- document 02, P2: "9 for .. any pin not 1 to n"
+abbrev pub goodPin : ℕ → ℕ → Bool
+goodPin n pin = oneTo n pin
+
+-- "In values handed over without text, a pin equal to n means the last and is accepted; other kinds ignore it."
+unfoldable pub pinCheck : Kind → ℕ → ℕ → Finding
+pinCheck Kind.Poly n pin = Finding.Fine
+pinCheck Kind.Linear n pin = Finding.Fine
+pinCheck Kind.Eigen n pin = badUnless (goodPin n pin) Fault.Pin
 
 unfoldable pub lowCheck : ℕ → List ℤ → Finding
 lowCheck n lo = badUnless (goodEnds lo n) Fault.Beyond
@@ -85,6 +95,7 @@ unfoldable pub lineCheck : JobLine → Job → Finding
 lineCheck JobLine.Number j = numberCheck (j .head .number)
 lineCheck JobLine.Kind j = Finding.Fine
 lineCheck JobLine.Unknowns j = unknownsCheck (j .head .n)
+lineCheck JobLine.Pin j = pinCheck (j .head .kind) (j .head .n) (j .head .pin)
 lineCheck JobLine.Lo j = lowCheck (j .head .n) (j .ends .lo)
 lineCheck JobLine.Hi j = highCheck (j .head .n) (j .ends .lo) (j .ends .hi)
 lineCheck JobLine.Inv j = inverseCheck (j .head .n) (j .inv)
@@ -97,10 +108,13 @@ lineCheck JobLine.End j = Finding.Fine
 unfoldable pub jobLineStatus : JobLine → Job → Status
 jobLineStatus k j = onLine (lineCheck k j) (jobNumber k (j .head))
 
--- "Order: job, kind, n"
+-- "Order: job, kind, n", and the pin after n
 unfoldable pub headLines : Job → Status
 headLines j =
-    andThen (jobLineStatus JobLine.Number j) (andThen (jobLineStatus JobLine.Kind j) (jobLineStatus JobLine.Unknowns j))
+    andThen (jobLineStatus JobLine.Number j)
+    (andThen (jobLineStatus JobLine.Kind j)
+    (andThen (jobLineStatus JobLine.Unknowns j)
+    (jobLineStatus JobLine.Pin j)))
 
 -- "then n lines"
 unfoldable pub systemLines : Job → Status

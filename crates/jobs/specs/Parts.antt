@@ -31,13 +31,27 @@ withSystem j s = record { head = j .head; ends = j .ends; inv = j .inv; steps = 
 -- ---- what one line says
 
 abbrev pub withNumber : Job → ℕ → Job
-withNumber j m = withHead j (record { number = m; kind = j .head .kind; n = j .head .n })
+withNumber j m = withHead j (record { number = m; kind = j .head .kind; n = j .head .n; pin = j .head .pin })
 
 abbrev pub withKind : Job → Kind → Job
-withKind j k = withHead j (record { number = j .head .number; kind = k; n = j .head .n })
+withKind j k = withHead j (record { number = j .head .number; kind = k; n = j .head .n; pin = j .head .pin })
+
+-- the pin where no line says it: "Without the line the last is pinned"; "Eigen jobs, and no others" have one
+abbrev pub lastPin : Kind → ℕ → ℕ
+lastPin Kind.Poly n = 0
+lastPin Kind.Linear n = 0
+lastPin Kind.Eigen n = n
 
 abbrev pub withUnknowns : Job → ℕ → Job
-withUnknowns j n = withHead j (record { number = j .head .number; kind = j .head .kind; n = n })
+withUnknowns j n = withHead j (record {
+  number = j .head .number;
+  kind = j .head .kind;
+  n = n;
+  pin = lastPin (j .head .kind) n;
+})
+
+abbrev pub withPin : Job → ℕ → Job
+withPin j p = withHead j (record { number = j .head .number; kind = j .head .kind; n = j .head .n; pin = p })
 
 abbrev pub withLo : Job → List ℤ → Job
 withLo j xs = withEnds j (record { lo = xs; hi = j .ends .hi })

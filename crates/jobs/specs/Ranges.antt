@@ -2,10 +2,15 @@
 use Prim.Native.Nat.{ℕ}
 use mathlib.Core.Bool.{Bool, _&&_}
 use mathlib.Core.List.{List}
+use lib.Dec.{leb}
 use lib.ListN.{getD}
 use lib.IntN.{ℤ, pos, negℤ}
 use lib.Signed.{leZ}
 use Rattle.lists.specs.Loops.{allB}
+
+-- from 1 to most
+unfoldable pub oneTo : ℕ → ℕ → Bool
+oneTo most m = leb 1 m && leb m most
 
 -- from -most to most
 unfoldable pub isWithin : ℤ → ℤ → Bool

@@ -23,7 +23,7 @@ abbrev pub zeroRow : Row
 zeroRow = record { at = replicate nMax (pos 0) }
 
 abbrev pub zeroHead : Head
-zeroHead = record { number = 0; kind = Kind.Poly; n = 0 }
+zeroHead = record { number = 0; kind = Kind.Poly; n = 0; pin = 0 }
 
 abbrev pub zeroEnds : Ends
 zeroEnds = record { lo = replicate nMax (pos 0); hi = replicate nMax (pos 0) }

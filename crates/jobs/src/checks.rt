@@ -8,6 +8,7 @@ use crate::Row;
 use crate::lines::job_line_number;
 use crate::ranges::all_ordered;
 use crate::ranges::all_within;
+use crate::ranges::one_to;
 use crate::ranges::within;
 use crate::terms::good_coefs;
 use crate::terms::good_terms;
@@ -26,23 +27,14 @@ use sizes::NUMBER;
 use sizes::STEPS;
 ghost use mathlib.Core.Path.{_≡_};
 ghost use Prim.Native.Nat.{_≤_, _<_};
-ghost use Rattle.sizes.specs.Sizes.{nMax, textMax};
+ghost use Rattle.sizes.specs.Sizes.{nMax};
 ghost use Rattle.faults.specs.Checks.{onLine};
 ghost use Rattle.jobs.specs.declared.JobLine.{JobLine};
-ghost use Rattle.jobs.specs.Lines.{jobNumber};
-ghost use Rattle.jobs.specs.Checks.{goodUnknowns, goodMatrix};
-ghost use Rattle.jobs.specs.Checks.{numberCheck, unknownsCheck, lowCheck, highCheck, inverseCheck, stepsCheck};
-ghost use Rattle.jobs.specs.Checks.{equationCheck, rowCheck, sidedCheck, systemCheck};
+ghost use Rattle.jobs.specs.Lines.{jobNumber, LineFits};
+ghost use Rattle.jobs.specs.Checks.{goodMatrix};
+ghost use Rattle.jobs.specs.Checks.{numberCheck, unknownsCheck, pinCheck, lowCheck, highCheck, inverseCheck};
+ghost use Rattle.jobs.specs.Checks.{stepsCheck, equationCheck, rowCheck, sidedCheck, systemCheck};
 ghost use Rattle.jobs.specs.Checks.{jobLineStatus, systemLines, headLines, bodyLines, checkJob};
-
-pub fn good_unknowns(n: usize) -> bool
-    ensures { λ r. ⌜ r ≡ goodUnknowns n ⌝ }
-{
-    if 1 <= n {
-        return n <= N;
-    }
-    false
-}
 
 pub fn good_matrix(rows: [Row; N], n: usize) -> bool
     requires { ⌜ n ≤ nMax ⌝ }
@@ -67,7 +59,17 @@ pub fn number_check(number: u64) -> Finding
 pub fn unknowns_check(n: usize) -> Finding
     ensures { λ r. ⌜ r ≡ unknownsCheck n ⌝ }
 {
-    bad_unless(good_unknowns(n), Fault::Unknowns)
+    bad_unless(one_to(N, n), Fault::Unknowns)
+}
+
+fn pin_check(kind: Kind, n: usize, pin: usize) -> Finding
+    ensures { λ r. ⌜ r ≡ pinCheck kind n pin ⌝ }
+{
+    match kind {
+        Kind::Poly => Finding::Fine,
+        Kind::Linear => Finding::Fine,
+        Kind::Eigen => bad_unless(one_to(n, pin), Fault::Pin),
+    }
 }
 
 pub fn low_check(n: usize, lo: [i64; N]) -> Finding
@@ -153,7 +155,7 @@ fn system_check(j: Job, i: usize) -> Finding
 
 // What a line of this kind finds, with its number.
 fn numbered(f: Finding, k: JobLine, head: Head) -> Status
-    requires { ⌜ jobNumber k head ≤ textMax ⌝ }
+    requires { ⌜ LineFits k head ⌝ }
     ensures { λ r. ⌜ r ≡ onLine f (jobNumber k head) ⌝ }
 {
     on_line(f, job_line_number(k, head))
@@ -186,7 +188,9 @@ fn head_lines(j: Job) -> Status
     let head = j.head;
     let number = numbered(number_check(head.number), JobLine::Number, head);
     let unknowns = numbered(unknowns_check(head.n), JobLine::Unknowns, head);
-    and_then(number, unknowns)
+    let kind = head.kind;
+    let pin = numbered(pin_check(kind, head.n, head.pin), JobLine::Pin, head);
+    and_then(number, and_then(unknowns, pin))
 }
 
 fn body_lines(j: Job) -> Status

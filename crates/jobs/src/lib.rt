@@ -34,11 +34,12 @@ pub struct Row {
     pub at: [i64; N],
 }
 
-// "job, kind, n"
+// "job, kind, n" and, in an eigenpair's, `pin`: the coordinate, counted from 1, that is 1. n means the last.
 pub struct Head {
     pub number: u64,
     pub kind: Kind,
     pub n: usize,
+    pub pin: usize,
 }
 
 // The starting box.
@@ -62,12 +63,13 @@ pub struct Job {
     pub system: Body,
 }
 
-// The kinds of lines of a job text, in their order; a line of the system with its place, from 0; End where no line is
-// left.
+// The kinds of lines of a job text, in their order; Pin is the line after n of an eigenpair's, its pin or, where none is
+// written, its lo; a line of the system with its place, from 0; End where no line is left.
 pub enum JobLine {
     Number,
     Kind,
     Unknowns,
+    Pin,
     Lo,
     Hi,
     Inv,

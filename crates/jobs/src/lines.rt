@@ -1,38 +1,69 @@
 // The numbers of the lines of both texts.
 use crate::Head;
 use crate::JobLine;
+use crate::Kind;
 use crate::ResultLine;
 ghost use mathlib.Core.Path.{_≡_};
 ghost use Prim.Native.Nat.{_≤_};
-ghost use Rattle.sizes.specs.Sizes.{nMax, textMax};
-ghost use Rattle.jobs.specs.Lines.{stepsNumber, systemNumber, jobNumber, resultNumber};
-ghost use Rattle.jobs.specs.Lines.{JobNumbered, ResultNumbered};
+ghost use Rattle.sizes.specs.Sizes.{nMax};
+ghost use Rattle.jobs.specs.Lines.{pinStands, pinLines, afterN, stepsNumber, systemNumber, jobNumber};
+ghost use Rattle.jobs.specs.Lines.{LineFits, resultNumber, JobNumbered, ResultNumbered};
+
+// Whether a job has a pin line.
+pub fn pin_written(head: Head) -> bool
+    ensures { λ r. ⌜ r ≡ pinStands (head .kind) (head .n) (head .pin) ⌝ }
+{
+    let kind = head.kind;
+    match kind {
+        Kind::Poly => false,
+        Kind::Linear => false,
+        Kind::Eigen => head.pin != head.n,
+    }
+}
+
+fn pin_lines(head: Head) -> u64
+    ensures { λ r. ⌜ r ≡ pinLines head ⌝ }
+{
+    if pin_written(head) { 1 } else { 0 }
+}
+
+// The line after n.
+fn after_n(kind: Kind) -> JobLine
+    ensures { λ r. ⌜ r ≡ afterN kind ⌝ }
+{
+    match kind {
+        Kind::Poly => JobLine::Lo,
+        Kind::Linear => JobLine::Lo,
+        Kind::Eigen => JobLine::Pin,
+    }
+}
 
 pub fn steps_number(head: Head) -> u64
     ensures { λ r. ⌜ r ≡ stepsNumber head ⌝ }
 {
-    7
+    7 + pin_lines(head)
 }
 
 // Line i of the system.
 pub fn system_number(head: Head, i: usize) -> u64
-    requires { ⌜ systemNumber head i ≤ textMax ⌝ }
+    requires { ⌜ i ≤ nMax ⌝ }
     ensures { λ r. ⌜ r ≡ systemNumber head i ⌝ }
 {
     steps_number(head) + 1 + i as u64
 }
 
 pub fn job_line_number(k: JobLine, head: Head) -> u64
-    requires { ⌜ jobNumber k head ≤ textMax ⌝ }
+    requires { ⌜ LineFits k head ⌝ }
     ensures { λ r. ⌜ r ≡ jobNumber k head ⌝ }
 {
     match k {
         JobLine::Number => 1,
         JobLine::Kind => 2,
         JobLine::Unknowns => 3,
-        JobLine::Lo => 4,
-        JobLine::Hi => 5,
-        JobLine::Inv => 6,
+        JobLine::Pin => 4,
+        JobLine::Lo => 4 + pin_lines(head),
+        JobLine::Hi => 5 + pin_lines(head),
+        JobLine::Inv => 6 + pin_lines(head),
         JobLine::Steps => steps_number(head),
         JobLine::System(i) => system_number(head, i),
         JobLine::End => system_number(head, head.n),
@@ -65,6 +96,11 @@ pub fn job_line_of(line: u64, head: Head) -> JobLine
     }
     if line <= job_line_number(JobLine::Unknowns, head) {
         return JobLine::Unknowns;
+    }
+    let kind = head.kind;
+    let fourth = after_n(kind);
+    if line <= job_line_number(fourth, head) {
+        return fourth;
     }
     if line <= job_line_number(JobLine::Lo, head) {
         return JobLine::Lo;

@@ -3,7 +3,17 @@ use sizes::N;
 ghost use mathlib.Core.Path.{_≡_};
 ghost use Prim.Native.Nat.{_≤_};
 ghost use Rattle.sizes.specs.Sizes.{nMax};
-ghost use Rattle.jobs.specs.Ranges.{isWithin, allWithin, allOrdered};
+ghost use Rattle.jobs.specs.Ranges.{oneTo, isWithin, allWithin, allOrdered};
+
+// From 1 to most.
+pub fn one_to(most: usize, m: usize) -> bool
+    ensures { λ r. ⌜ r ≡ oneTo most m ⌝ }
+{
+    if 1 <= m {
+        return m <= most;
+    }
+    false
+}
 
 // From -most to most. (z is below -most where it is at most -1 - most, and that never overflows.)
 pub fn within(z: i64, most: i64) -> bool

@@ -46,6 +46,7 @@ pub fn zero_head() -> Head
         number: 0,
         kind: Kind::Poly,
         n: 0,
+        pin: 0,
     }
 }
 

@@ -21,6 +21,7 @@ use Rattle.lines.specs.Found.{found}
 use Rattle.lines.specs.Lines.{misspelled, digitIs}
 use Rattle.line_read.specs.At.{said, onward}
 use Rattle.line_read.specs.Spells.{Spells}
+use Rattle.line_read.specs.States.{Tells}
 
 -- ---- the check comes after the spelling
 
@@ -61,6 +62,11 @@ module _ {A : Type 0} {b next : ℕ} {s : Finding} {v : A} where
   pub spells-fine : (x : A) → s ≡ Finding.Fine → v ≡ x → next ≡ b → Spells (Got.got x) b s next v
   spells-fine x e p q =
       record { bad = λ h w. fault-got (sym w); fine = λ y w. let z : x ≡ y = cc in (e, p ∙ z, q) }
+
+-- where the answer's parts are known, its spelling is
+pub tells-spells : {A : Type 0} {g : Got Fault A} {b next : ℕ} {s : Finding} {v : A} → Tells g b s next v
+    → Spells g b s next v
+tells-spells t = record { bad = λ f e. t .bad f e .0; fine = t .fine }
 
 -- an LF ends the line, and its bytes are well spelled: one test for both
 pub odd-line : {A : Type 0} (e o : Bool) (g : Got Fault A)

@@ -16,13 +16,13 @@ use Rattle.lines.specs.Lines.{Sided}
 use Rattle.line_read.specs.declared.CountLine.{CountLine}
 use Rattle.line_read.specs.declared.KindLine.{KindLine}
 use Rattle.line_read.specs.declared.VerdictLine.{VerdictLine}
-use Rattle.line_read.specs.declared.UnknownsLine.{UnknownsLine}
+use Rattle.line_read.specs.declared.SmallLine.{SmallLine}
 use Rattle.line_read.specs.declared.CellsLine.{CellsLine}
 use Rattle.line_read.specs.declared.LowLine.{LowLine}
 use Rattle.line_read.specs.declared.RowsLine.{RowsLine}
 use Rattle.line_read.specs.declared.SidedLine.{SidedLine}
 use Rattle.line_read.specs.declared.EquationLine.{EquationLine}
-use Rattle.line_read.specs.At.{countAt, kindAt, verdictAt, unknownsAt}
+use Rattle.line_read.specs.At.{countAt, kindAt, verdictAt, smallAt}
 use Rattle.line_read.specs.At.{cellsAt, lowAt, rowsAt, sidedAt, equationAt}
 use Rattle.line_read.specs.States.{Tells}
 
@@ -51,10 +51,10 @@ pub verdict-tells : (g : Got Fault Verdict) (b : ℕ) {r : VerdictLine} → r �
 verdict-tells =
     tells verdictAt (λ r. r .found) (λ r. r .next) (λ r. r .verdict) (λ x b. (refl, refl, refl)) (λ f b. (refl, refl))
 
-pub unknowns-tells : (g : Got Fault ℕ) (b : ℕ) {r : UnknownsLine} → r ≡ unknownsAt g b
-    → Tells g b (r .found) (r .next) (r .n)
-unknowns-tells =
-    tells unknownsAt (λ r. r .found) (λ r. r .next) (λ r. r .n) (λ x b. (refl, refl, refl)) (λ f b. (refl, refl))
+pub small-tells : (g : Got Fault ℕ) (b : ℕ) {r : SmallLine} → r ≡ smallAt g b
+    → Tells g b (r .found) (r .next) (r .small)
+small-tells =
+    tells smallAt (λ r. r .found) (λ r. r .next) (λ r. r .small) (λ x b. (refl, refl, refl)) (λ f b. (refl, refl))
 
 pub cells-tells : (g : Got Fault (List ℤ)) (b : ℕ) {r : CellsLine} → r ≡ cellsAt g b
     → Tells g b (r .found) (r .next) (r .cells)

@@ -24,17 +24,17 @@ use Rattle.line_read.specs.States.{stateOf, Leads, Tells}
 
 module _ {L X : Type 0} (form : Form Fault L X) (t : List ℕ) where
   module _ {A : Type 0} (k : L) (v : X) (a : ℕ) (h : a ≤ length t) (left : form .last k ≡ false)
-      (f : List ℕ → Got Fault A) (put : A → Next L X) (says : form .says k v ≡ (λ l. after (f l) put)) where
-    pub line-leads : {found : Finding} {next : ℕ} {x : A} {m : ℕ} {st : Status}
+      (f : List ℕ → Got Fault A) (put : A → Next L X) where
+    -- the line that stands here says what f makes of it
+    pub line-leads-here : lineAt (form .odd) (form .says k v) t a ≡ after (lineAt (form .odd) f t a) put
+        → {found : Finding} {next : ℕ} {x : A} {m : ℕ} {st : Status}
         → Tells (lineAt (form .odd) f t a) (lineEnd t a + 1) found next x → st ≡ onLine found m → m ≡ form .number k v
         → Leads form t a k v st (put x .kind) (put x .value) next
     unfolding onLine after
-    line-leads {found} {next} {x} p q w = rw (q, w) record { goes = go (lineAt (form .odd) f t a) refl }
+    line-leads-here says {found} {next} {x} p q w = rw (q, w) record { goes = go (lineAt (form .odd) f t a) refl }
       where
         made : (g : Got Fault A) → lineAt (form .odd) f t a ≡ g → lineAt (form .odd) (form .says k v) t a ≡ after g put
-        made g e =
-            ap (λ (s : List ℕ → Got Fault (Next L X)). lineAt (form .odd) s t a) says
-            ∙ line-after (form .odd) f put t a ∙ ap (λ (g : Got Fault A). after g put) e
+        made g e = says ∙ ap (λ (g : Got Fault A). after g put) e
 
         go : (g : Got Fault A) → lineAt (form .odd) f t a ≡ g
             → Goes form t a k v (stateOf (onLine found (form .number k v)) (put x .kind) (put x .value)) next
@@ -44,6 +44,15 @@ module _ {L X : Type 0} (form : Form Fault L X) (t : List ℕ) where
         go (Got.fault d) e =
             let q = p .bad d e in
             rw (q .0, q .1) (goes-fault form t k v a h left d (made (Got.fault d) e) 0 (omega arith))
+
+    -- every line does
+    pub line-leads : form .says k v ≡ (λ l. after (f l) put)
+        → {found : Finding} {next : ℕ} {x : A} {m : ℕ} {st : Status}
+        → Tells (lineAt (form .odd) f t a) (lineEnd t a + 1) found next x → st ≡ onLine found m → m ≡ form .number k v
+        → Leads form t a k v st (put x .kind) (put x .value) next
+    line-leads says =
+        line-leads-here (ap (λ (s : List ℕ → Got Fault (Next L X)). lineAt (form .odd) s t a) says
+        ∙ line-after (form .odd) f put t a)
 
   -- ---- line after line
 

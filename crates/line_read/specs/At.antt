@@ -20,7 +20,7 @@ use Rattle.lines.specs.Lines.{Sided}
 use Rattle.line_read.specs.declared.CountLine.{CountLine}
 use Rattle.line_read.specs.declared.KindLine.{KindLine}
 use Rattle.line_read.specs.declared.VerdictLine.{VerdictLine}
-use Rattle.line_read.specs.declared.UnknownsLine.{UnknownsLine}
+use Rattle.line_read.specs.declared.SmallLine.{SmallLine}
 use Rattle.line_read.specs.declared.CellsLine.{CellsLine}
 use Rattle.line_read.specs.declared.LowLine.{LowLine}
 use Rattle.line_read.specs.declared.RowsLine.{RowsLine}
@@ -47,9 +47,9 @@ abbrev pub verdictAt : Got Fault Verdict → ℕ → VerdictLine
 verdictAt (Got.got v) b = record { found = Finding.Fine; verdict = v; next = b }
 verdictAt (Got.fault f) b = record { found = Finding.Bad f; verdict = Verdict.None; next = 0 }
 
-abbrev pub unknownsAt : Got Fault ℕ → ℕ → UnknownsLine
-unknownsAt (Got.got n) b = record { found = Finding.Fine; n = n; next = b }
-unknownsAt (Got.fault f) b = record { found = Finding.Bad f; n = 0; next = 0 }
+abbrev pub smallAt : Got Fault ℕ → ℕ → SmallLine
+smallAt (Got.got m) b = record { found = Finding.Fine; small = m; next = b }
+smallAt (Got.fault f) b = record { found = Finding.Bad f; small = 0; next = 0 }
 
 abbrev zeros : List ℤ
 zeros = replicate nMax (pos 0)

@@ -1,13 +1,15 @@
 // The lines that hold one number.
 use crate::CountLine;
-use crate::UnknownsLine;
+use crate::SmallLine;
 use faults::Fault;
 use faults::Finding;
 use faults::bad_unless;
 use faults::first_of;
 use jobs::checks::unknowns_check;
+use jobs::ranges::one_to;
 use scan::CountAt;
 use scan::lines::count_at;
+use scan::lines::key_at;
 use sizes::NUMBER;
 use sizes::STEPS;
 use term_read::digit_at;
@@ -17,12 +19,14 @@ ghost use mathlib.Core.Bool.{true};
 ghost use Prim.Native.Nat.{_≤_};
 ghost use lib.ListN.{length};
 ghost use Rattle.faults.specs.declared.Fault.{Fault};
-ghost use Rattle.scan.specs.Lines.{noFeed};
+ghost use Rattle.text.specs.Keys.{startsWith};
+ghost use Rattle.text.specs.Words.{pinKey};
+ghost use Rattle.scan.specs.Lines.{noFeed, lineOf};
 ghost use Rattle.reading.specs.Got.{Got, after};
 ghost use Rattle.reading.specs.NumberLines.{countLine, counted};
 ghost use Rattle.lines.specs.Found.{found};
-ghost use Rattle.lines.specs.Lines.{numberOf, stepsOf, unknownsOf};
-ghost use Rattle.line_read.specs.At.{said, onward, countAt, unknownsAt};
+ghost use Rattle.lines.specs.Lines.{numberOf, stepsOf, unknownsOf, writtenPin, pinOf};
+ghost use Rattle.line_read.specs.At.{said, onward, countAt, smallAt};
 
 fn no_count(f: Fault) -> CountLine
     ensures { λ r. ⌜ r ≡ countAt (Got.fault f) 0 ⌝ }
@@ -72,29 +76,58 @@ pub fn steps_line(text: &[u8], from: usize) -> CountLine
     count_line(text, from, b"steps=", STEPS, Fault::Steps)
 }
 
-fn judged(f: Finding, n: usize, next: usize) -> UnknownsLine
-    ensures { λ r. ⌜ r ≡ unknownsAt (after (found f) (λ u. n)) next ⌝ }
+fn judged(f: Finding, small: usize, next: usize) -> SmallLine
+    ensures { λ r. ⌜ r ≡ smallAt (after (found f) (λ u. small)) next ⌝ }
 {
     match f {
-        Finding::Fine => UnknownsLine {
+        Finding::Fine => SmallLine {
             found: Finding::Fine,
-            n,
+            small,
             next,
         },
-        Finding::Bad(fault) => UnknownsLine {
+        Finding::Bad(fault) => SmallLine {
             found: Finding::Bad(fault),
-            n: 0,
+            small: 0,
             next: 0,
         },
     }
 }
 
-pub fn unknowns_line(text: &[u8], from: usize) -> UnknownsLine
+pub fn unknowns_line(text: &[u8], from: usize) -> SmallLine
     requires { ⌜ from ≤ length (now text) ⌝ }
-    ensures { λ r. ⌜ r ≡ unknownsAt (said unknownsOf (now (text .entry)) from) (onward (now (text .entry)) from) ⌝ }
+    ensures { λ r. ⌜ r ≡ smallAt (said unknownsOf (now (text .entry)) from) (onward (now (text .entry)) from) ⌝ }
 {
     let d = digit_at(text, from, b"n=");
     let n = d.digit;
     let found = first_of(bad_unless(d.ok, Fault::Spelling), unknowns_check(n));
     judged(found, n, d.next)
+}
+
+// Whether the line that begins here has the pin's key.
+pub fn pin_stands(text: &[u8], from: usize) -> bool
+    requires { ⌜ from ≤ length (now text) ⌝ }
+    ensures { λ r. ⌜ r ≡ startsWith pinKey (lineOf (now (text .entry)) from) ⌝ }
+{
+    key_at(text, from, b"pin=")
+}
+
+// "9 for a written pin of n, or any pin not 1 to n"
+fn written_pin(n: usize, pin: usize) -> Finding
+    ensures { λ r. ⌜ r ≡ writtenPin n pin ⌝ }
+{
+    if pin == n {
+        return Finding::Bad(Fault::Pin);
+    }
+    bad_unless(one_to(n, pin), Fault::Pin)
+}
+
+pub fn pin_line(text: &[u8], from: usize, n: usize) -> SmallLine
+    requires { ⌜ from ≤ length (now text) ⌝ }
+    ensures { λ r. ⌜ r ≡ smallAt (said (pinOf n) (now (text .entry)) from) (onward (now (text .entry)) from) ⌝ }
+{
+    let c = count_line(text, from, b"pin=", n as u64, Fault::Pin);
+    let pin = c.count as usize;
+    let spelled = c.found;
+    let found = first_of(spelled, written_pin(n, pin));
+    judged(found, pin, c.next)
 }

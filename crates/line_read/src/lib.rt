@@ -28,9 +28,10 @@ pub struct VerdictLine {
     pub next: usize,
 }
 
-pub struct UnknownsLine {
+// n, or the pin.
+pub struct SmallLine {
     pub found: Finding,
-    pub n: usize,
+    pub small: usize,
     pub next: usize,
 }
 

@@ -35,7 +35,7 @@ use Rattle.lines.proofs.Rows.{square-fits, square-some, matrix-first, r
 -- ---- one number
 
 -- against its limit
-count-back : (f : Fault) (key : List ℕ) (most m : ℕ) → m < 10 ^ digitsMax
+pub count-back : (f : Fault) (key : List ℕ) (most m : ℕ) → m < 10 ^ digitsMax
     → countLine Fault.Spelling f key most (countText key m) ≡ after (found (badUnless (leb m most) f)) (λ u. m)
 unfolding badUnless after
 count-back f key most m s =

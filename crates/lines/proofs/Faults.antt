@@ -12,7 +12,7 @@ use Rattle.faults.specs.declared.Fault.{Fault}
 use Rattle.faults.specs.declared.Finding.{Finding}
 use Rattle.text.specs.Keys.{bodyOf, sameBytes}
 use Rattle.text.specs.Lists.{placesMax}
-use Rattle.text.specs.Words.{jobKey, nKey, loKey, hiKey, invKey, stepsKey, rowKey}
+use Rattle.text.specs.Words.{jobKey, nKey, pinKey, loKey, hiKey, invKey, stepsKey, rowKey}
 use Rattle.term_text.specs.Terms.{oneDigit, readEquation}
 use Rattle.jobs.specs.Checks.{unknownsCheck, lowCheck, highCheck, inverseCheck, equationCheck, rowCheck, sidedCheck}
 use Rattle.jobs.specs.CheckResult.{countCheck, countedCheck}
@@ -23,7 +23,7 @@ use Rattle.reading.proofs.Blamed.{blamed-got, blamed-fault, blamed-either, blam
 use Rattle.reading.proofs.Blamed.{count-blamed, list-blamed, row-blamed}
 use Rattle.lines.specs.Found.{found}
 use Rattle.lines.specs.Lines.{numberOf, stepsOf, digitIs, unknownsOf, kindOf, verdictOf, lowOf, anyLowOf, highOf}
-use Rattle.lines.specs.Lines.{inverseOf, rowOf, sidedOf, termsBy, equationOf, wordOr}
+use Rattle.lines.specs.Lines.{writtenPin, pinOf, inverseOf, rowOf, sidedOf, termsBy, equationOf, wordOr}
 use Rattle.lines.specs.Texts.{kindText, verdictText}
 
 -- a fault that a line may have
@@ -45,6 +45,9 @@ crossed = record { not-long = λ e. omega arith; not-short = λ e. omega arith }
 
 terms : OfLine Fault.Terms
 terms = record { not-long = λ e. omega arith; not-short = λ e. omega arith }
+
+pin : OfLine Fault.Pin
+pin = record { not-long = λ e. omega arith; not-short = λ e. omega arith }
 
 steps : OfLine Fault.Steps
 steps = record { not-long = λ e. omega arith; not-short = λ e. omega arith }
@@ -120,6 +123,11 @@ module _ (l : List ℕ) where
       (low-finds (x .count) (x .row)))
 
   module _ (n : ℕ) where
+    pub pin-of-line : Blamed OfLine (pinOf n l)
+    unfolding pinOf writtenPin
+    pin-of-line =
+        blamed-passing _ _ (count-blamed Fault.Spelling spelling pinKey l Fault.Pin pin n) (λ p. finds-unless _ pin)
+
     pub low-of-line : Blamed OfLine (lowOf n l)
     unfolding lowOf
     low-of-line = blamed-passing _ _ (row-blamed Fault.Spelling spelling loKey l nMax n) (low-finds n)

@@ -6,6 +6,7 @@ pub mod Checks
 pub mod Unknowns
 pub mod Rows
 pub mod Back
+pub mod Pins
 pub mod Told
 pub mod Equations
 pub mod Trips

@@ -3,20 +3,24 @@
 -- (crate jobs, Checks): "in one line 2 comes before the others, then 3, then 4, then 5 or 6".
 use Prim.Native.Nat.{ℕ, _+_, _-_, _*_}
 use mathlib.Core.List.{List, _++_}
-use mathlib.Core.Bool.{cond, not}
+use mathlib.Core.Bool.{cond, not, _&&_}
 use lib.ListN.{getD}
+use lib.Dec.{eqb}
 use lib.IntN.{ℤ, pos}
 use Rattle.sizes.specs.Sizes.{nMax, numberMax, stepsMax}
 use Rattle.faults.specs.declared.Fault.{Fault}
+use Rattle.faults.specs.declared.Finding.{Finding}
+use Rattle.faults.specs.Checks.{badUnless}
 use Rattle.digits.specs.Bytes.{digit0}
-use Rattle.text.specs.Words.{jobKey, kindKey, nKey, loKey, hiKey, invKey, stepsKey, rowKey, verdictKey}
+use Rattle.text.specs.Words.{jobKey, kindKey, nKey, pinKey, loKey, hiKey, invKey, stepsKey, rowKey, verdictKey}
 use Rattle.text.specs.Keys.{sameBytes, bodyOf}
 use Rattle.text.specs.Lists.{placesMax}
 use Rattle.jobs.specs.declared.Kind.{Kind}
 use Rattle.jobs.specs.declared.Row.{Row}
 use Rattle.jobs.specs.declared.Equation.{Equation}
 use Rattle.jobs.specs.declared.Verdict.{Verdict}
-use Rattle.jobs.specs.Checks.{unknownsCheck, lowCheck, highCheck, inverseCheck, equationCheck, rowCheck, sidedCheck}
+use Rattle.jobs.specs.Checks.{unknownsCheck, goodPin, lowCheck, highCheck, inverseCheck}
+use Rattle.jobs.specs.Checks.{equationCheck, rowCheck, sidedCheck}
 use Rattle.jobs.specs.CheckResult.{countedCheck}
 use Rattle.term_text.specs.Terms.{oneDigit, readEquation}
 use Rattle.term_text.specs.declared.Terms.{Terms}
@@ -46,6 +50,14 @@ digitIs b = refuse (not (oneDigit b)) Fault.Spelling (Got.got (getD b 0 0 - digi
 -- n=: "`n` is one digit"; "n not 1 to 4" 3
 unfoldable pub unknownsOf : List ℕ → Got Fault ℕ
 unknownsOf l = passing (digitIs (bodyOf nKey l)) (λ n. found (unknownsCheck n))
+
+-- document 02, P2: "9 for a written pin of n, or any pin not 1 to n"
+unfoldable pub writtenPin : ℕ → ℕ → Finding
+writtenPin n pin = badUnless (goodPin n pin && not (eqb pin n)) Fault.Pin
+
+-- pin=: a number; its refusals come "after 2"
+unfoldable pub pinOf : ℕ → List ℕ → Got Fault ℕ
+pinOf n l = passing (countLine Fault.Spelling Fault.Pin pinKey n l) (λ pin. found (writtenPin n pin))
 
 -- ---- a line that holds a word
 

@@ -91,7 +91,7 @@ module _ (j : Job) (checked : checkJob j ≡ Status.Done) where
   none-no-zero a says p zero = promises.none-no-zero s a says p (solves-zero j accepted zero)
 
   -- A fraction zero of a linear job is a fraction solution of A x = b, one of an eigenpair's job is a fraction
-  -- eigenpair with last coordinate 1
+  -- eigenpair with coordinate pin 1
   pub linear-zeros : j .head .kind ≡ Kind.Linear → (p : Point) → pos 0 <ℤ p .den → Solves j p ↔ SolvesLinear j p
   linear-zeros kind p den = jobs.linear-zeros j den kind
 

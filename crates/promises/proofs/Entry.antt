@@ -42,6 +42,7 @@ module _ (j : Job) (a : ℕ) where
     number = h .number;
     some = h .some;
     few = h .few;
+    pin = h .pin;
     low = h .low;
     high = h .high;
     ordered = h .ordered;

@@ -16,9 +16,9 @@ use Rattle.intervals.specs.Fraction.{In}
 use Rattle.intervals.specs.Interval.{addI, negI, sumI, scaleI, wideI, outI, mulI, midI, meetsI, insideI}
 use Rattle.powers.specs.Powers.{powerI}
 use Rattle.matrices.specs.Products.{dotI, dOf, unitZ, entryB, bOf, eOf}
-use Rattle.jobs.specs.Ranges.{isWithin, allWithin, allOrdered}
+use Rattle.jobs.specs.Ranges.{oneTo, isWithin, allWithin, allOrdered}
 use Rattle.faults.specs.Checks.{badUnless, firstOf, onLine, andThen, linesOf}
-use Rattle.jobs.specs.Checks.{goodUnknowns, goodMatrix, numberCheck, unknownsCheck}
+use Rattle.jobs.specs.Checks.{goodMatrix, numberCheck, unknownsCheck, pinCheck}
 use Rattle.jobs.specs.Checks.{lowCheck, highCheck, inverseCheck, stepsCheck}
 use Rattle.jobs.specs.Checks.{rowCheck, sidedCheck, systemCheck, lineCheck}
 use Rattle.jobs.specs.Checks.{jobLineStatus, systemLines, headLines, bodyLines, checkJob}
@@ -44,7 +44,7 @@ holding numbers = record { at = numbers }
 -- "T11 linear, rows 131072,0,65536 and 0,262144,65536, inverse 32768,0,0,16384, box [-65536,65536] twice"
 abbrev job11 : Job
 job11 = record {
-  head = record { number = 11; kind = Kind.Linear; n = 2 };
+  head = record { number = 11; kind = Kind.Linear; n = 2; pin = 0 };
   ends = record { lo = negsuc 65535 ∷ negsuc 65535 ∷ []; hi = pos 65536 ∷ pos 65536 ∷ [] };
   inv = holding (pos 32768 ∷ pos 0 ∷ []) ∷ holding (pos 0 ∷ pos 16384 ∷ []) ∷ [];
   steps = 1;
@@ -56,8 +56,8 @@ job11 = record {
 }
 
 pub accepted : checkJob job11 ≡ Status.Done
-unfolding checkJob headLines bodyLines numberCheck unknownsCheck goodUnknowns lowCheck highCheck inverseCheck goodMatrix
-    stepsCheck systemLines linesOf systemCheck lineCheck jobLineStatus
+unfolding checkJob headLines bodyLines numberCheck unknownsCheck oneTo pinCheck lowCheck highCheck
+    inverseCheck goodMatrix stepsCheck systemLines linesOf systemCheck lineCheck jobLineStatus
     sidedCheck rowCheck badUnless firstOf onLine andThen allWithin isWithin allOrdered allB
 accepted = refl
 

@@ -39,14 +39,14 @@ module _ (j : Job) (a : Accepted j) where
     n = j .head .n;
     room = a .few;
     equations = equationOf j;
-    degrees = λ i l. equation-degrees j (a .few) i l (given-degrees i l);
+    degrees = λ i l. equation-degrees j (a .few) (a .pin) i l (given-degrees i l);
     inverse = inverseOf j;
     start = startOf j;
     order = start-order;
   }
 
   pub solves-zero : {p : Point} → Solves j p → Zero (j .head .n) (equationOf j) p
-  solves-zero {p} s = record { each = λ i l. equation-is j (a .few) i l (p .num) (p .den) ∙ s .each i l }
+  solves-zero {p} s = record { each = λ i l. equation-is j (a .few) (a .pin) i l (p .num) (p .den) ∙ s .each i l }
 
 -- ---- a formula is 0 exactly where its two sides are equal
 no-difference : (x y : ℤ) {w : ℤ} → pos 0 <ℤ w → ((x -ℤ y) *ℤ w ≡ pos 0) ↔ (x ≡ y)

@@ -7,6 +7,7 @@ pub mod Verdicts
 pub mod Answers
 pub mod Promises
 pub mod Jobs
+pub mod Pins
 pub mod Entry
 pub mod Results
 pub mod Demand3
@@ -14,3 +15,4 @@ pub mod Demand2
 pub mod Examples
 pub mod ByTwo
 pub mod RequestP7
+pub mod RequestP2

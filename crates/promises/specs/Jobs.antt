@@ -33,8 +33,8 @@ pub record SolvesLinear (j : Job) (p : Point) : Type 0 where
   pub each : (i : ℕ) → i < j .head .n
       → sumTo (j .head .n) (λ k. rowOf j i k *ℤ p .num k) ≡ numberAt (j .system .right) i *ℤ unitsOf (p .den)
 
--- "an eigenpair of a matrix", A x = L x, "the last coordinate of the vector is set to 1" and unknown n is L: row i
--- times x is L x(i). In marks L x(i) is 65,536 times what it is in units.
+-- "an eigenpair of a matrix", A x = L x, as document 02, P2, has it: "coordinate pin is 1 and the eigenvalue takes its
+-- place as that unknown": row i times x is L x(i). In marks L x(i) is 65,536 times what it is in units.
 pub record Eigenpair (j : Job) (p : Point) : Type 0 where
   pub each : (i : ℕ) → i < j .head .n
       → sumTo (j .head .n) (λ k. rowOf j i k *ℤ coordinate (pinned j) (p .num) (p .den) k) *ℤ unitsOf (p .den)

@@ -126,6 +126,21 @@ module _ {F L X : Type 0} (g : Form F L X) (t : List ℕ) where
         line-held (State.at k v) a h p
         ∙ odd-end k v (length t - a) (rw (ne-eqb (length t - a) 0 (λ e. omega arith)) (false-and (g .last k))))
 
+  -- a line that says the same as one of another kind, under the same number
+  pub goes-as : (k k' : L) (v : X) (a : ℕ) → a ≤ length t → g .last k ≡ false → g .last k' ≡ false
+      → g .number k v ≡ g .number k' v → lineAt (g .odd) (g .says k v) t a ≡ lineAt (g .odd) (g .says k' v) t a
+      → Goes g t a k v (State.at k' v) a
+  unfolding heard-at
+  goes-as k k' v a h left left' number says = record {
+    inside = h;
+    same = rest-line k v a h left ∙ ap (heard-at k v a h) says ∙ go (lineAt (g .odd) (g .says k' v) t a)
+        ∙ sym (rest-line k' v a h left');
+  }
+    where
+      go : (r : Got F (Next L X)) → heard-at k v a h r ≡ heard-at k' v a h r
+      go (Got.got x) = refl
+      go (Got.fault f) = ap (Answer.refused f) number
+
   -- no line
   pub goes-none : (a : ℕ) (k : L) (v : X) → a ≤ length t → Goes g t a k v (State.at k v) a
   goes-none a k v h = record { inside = h; same = refl }

@@ -8,9 +8,9 @@ use lib.ListN.{length}
 use lib.Dec.{eqb}
 use borrow.Author.Tests.{eqb-false, ne-eqb}
 use Rattle.digits.specs.Bytes.{lineFeed}
-use Rattle.text.specs.Cut.{Cut, fresh, feed, feeds, placeOf, endEach}
+use Rattle.text.specs.Cut.{Cut, fresh, feed, feeds, placeOf, endEach, pieces, rest}
 use Rattle.text.proofs.Cuts.{feed-sep, feed-held, feeds-none, feeds-cons}
-use Rattle.text.proofs.Pieces.{pieces, rest, feeds-append}
+use Rattle.text.proofs.Pieces.{feeds-append}
 use Rattle.reading.specs.Lines.{bytes}
 use Rattle.reading.specs.Places.{lineLength}
 use Rattle.reading.specs.Refused.{Plain, AllPlain}

@@ -8,8 +8,8 @@ use lib.ListN.{length}
 use lib.Dec.{eqb, ltb}
 use borrow.Author.Tests.{eqb-true}
 use Rattle.digits.specs.Bytes.{lineFeed}
-use Rattle.text.specs.Cut.{Cut}
-use Rattle.text.proofs.Pieces.{pieces, rest, cut-fold, cut-whole}
+use Rattle.text.specs.Cut.{Cut, pieces, rest}
+use Rattle.text.proofs.Pieces.{cut-fold, cut-whole}
 use Rattle.text.proofs.Keys.{both}
 use Rattle.reading.specs.Got.{Got, Told}
 use Rattle.reading.specs.Lines.{Next, Form, State, Answer, heard, step, begin, opened, more, ended, closed}
@@ -73,6 +73,7 @@ module _ {F L X : Type 0} (g : Form F L X) where
     pub reads : Reads g lines kind q
     pub last : g .last kind ≡ true
     pub text : bytes lines ≡ t
+    pub are : lines ≡ pieces lineFeed t
 
   record Ends (s : State F L X) (held : ℕ) (q : X) : Type 0 where
     kind : L
@@ -114,4 +115,5 @@ module _ {F L X : Type 0} (g : Form F L X) where
         text = sym (append-nil (bytes (pieces lineFeed t)))
             ∙ ap (λ (l : List ℕ). bytes (pieces lineFeed t) ++ l) (sym (no-bytes (rest lineFeed t) (end .none)))
             ∙ cut-whole lineFeed t;
+        are = refl;
       }

@@ -9,8 +9,8 @@ use lib.ListN.{length}
 use lib.Dec.{eqb}
 use borrow.Author.Tests.{le-ltb}
 use Rattle.digits.specs.Bytes.{lineFeed}
-use Rattle.text.specs.Cut.{Cut, fresh, feeds, endEach}
-use Rattle.text.proofs.Pieces.{pieces, rest, cut-fold, cut-whole}
+use Rattle.text.specs.Cut.{Cut, fresh, feeds, endEach, pieces, rest}
+use Rattle.text.proofs.Pieces.{cut-fold, cut-whole}
 use Rattle.reading.specs.Got.{Got, Blamed}
 use Rattle.reading.specs.Lines.{Next, Form, State, Answer, heard, step, begin, opened, more, ended, closed}
 use Rattle.reading.specs.Lines.{endedCut, read, bytes}

@@ -39,6 +39,7 @@ line-some line LineSlip.Extra = refl
 line-some line LineSlip.NoFeed = refl
 line-some line LineSlip.Return = refl
 line-some line LineSlip.Blank = refl
+line-some line LineSlip.Pin = refl
 
 unlike-some : (line : ℕ) (slip : Unlike) (form : Form) → begun (unlikeWords line slip form) ≡ true
 unfolding unlikeWords
@@ -62,6 +63,7 @@ misspelled-some s Misspelling.OrderMark = refl
 misspelled-some s (Misspelling.Line slip) = line-some (s .line) slip
 misspelled-some s (Misspelling.Unlike slip) = unlike-some (s .line) slip (s .form)
 misspelled-some s (Misspelling.OtherKey own key) = refl
+misspelled-some s (Misspelling.NeitherKey key) = refl
 misspelled-some s (Misspelling.Number Field.Only wrong) = refl
 misspelled-some s (Misspelling.Number (Field.Number k) wrong) = refl
 misspelled-some s (Misspelling.Number (Field.Coefficient k) wrong) = refl
@@ -101,6 +103,7 @@ slip-begun (Slip.Crossed at) e = crossed-some at
 slip-begun (Slip.Terms slip) e = term-some slip
 slip-begun Slip.Short e = refl
 slip-begun (Slip.Steps v) e = refl
+slip-begun (Slip.Pin v slip) e = refl
 
 pub slip-some : (slip : Slip) {f : Fault} → faultOf slip ≡ Finding.Bad f → 0 < length (slipWords slip)
 slip-some slip e = some (slipWords slip) (slip-begun slip e)
@@ -116,3 +119,4 @@ slip-none (Slip.Crossed at) e = absurd (zero-one (cc))
 slip-none (Slip.Terms slip) e = absurd (zero-one (cc))
 slip-none Slip.Short e = absurd (zero-one (cc))
 slip-none (Slip.Steps v) e = absurd (zero-one (cc))
+slip-none (Slip.Pin v slip) e = absurd (zero-one (cc))

@@ -29,18 +29,24 @@ fieldMost = 44
 abbrev pub wrongMost : ℕ
 wrongMost = 60
 
+abbrev pub severalMost : ℕ
+severalMost = 58
+
+abbrev pub pinMost : ℕ
+pinMost = 48
+
 abbrev pub formMost : ℕ
-formMost = 98
+formMost = 111
 
 abbrev pub expectedMost : ℕ
-expectedMost = 109
+expectedMost = 122
 
 -- the longest words that a sentence is made with
 abbrev pub wordsMost : ℕ
-wordsMost = 60
+wordsMost = 70
 
 abbrev pub rangeMost : ℕ
-rangeMost = 115
+rangeMost = 125
 
 abbrev pub nounMost : ℕ
 nounMost = 40

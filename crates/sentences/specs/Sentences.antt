@@ -18,10 +18,11 @@ use Rattle.slips.specs.declared.Spelled.{Spelled}
 use Rattle.slips.specs.declared.Far.{Far}
 use Rattle.slips.specs.declared.Crossing.{Crossing}
 use Rattle.slips.specs.declared.TermSlip.{TermSlip}
+use Rattle.slips.specs.declared.PinSlip.{PinSlip}
 use Rattle.slips.specs.declared.Slip.{Slip}
 use Rattle.slips.specs.Slips.{faultOf}
 use Rattle.sentences.specs.Ascii.{ascii}
-use Rattle.sentences.specs.Words.{valueWords, keyWords, expectedWords, fieldWords, wrongWords}
+use Rattle.sentences.specs.Words.{valueWords, keyWords, expectedWords, fieldWords, wrongWords, pinRangeWords}
 use Rattle.sentences.specs.Words.{countWords, counted, someWords}
 use Rattle.sentences.specs.Says.{sentenceMax}
 
@@ -38,6 +39,10 @@ lineNot line words form = lineWords line words ++ expectedWords form
 abbrev pub otherKeyWords : ℕ → Key → Key → List ℕ
 otherKeyWords line own key =
     lineWords line (ascii " begins with ") ++ keyWords key ++ ascii ", " ++ keyWords own ++ ascii " is expected"
+
+abbrev pub neitherKeyWords : ℕ → Key → List ℕ
+neitherKeyWords line key =
+    lineWords line (ascii " begins with ") ++ keyWords key ++ ascii ", pin= or lo= is expected"
 
 abbrev pub numberNot : Field → Wrong → Form → List ℕ
 numberNot field wrong form = fieldWords field ++ wrongWords wrong ++ expectedWords form
@@ -68,6 +73,8 @@ lineSlipWords line LineSlip.Extra = lineWords line (ascii " is one too many: the
 lineSlipWords line LineSlip.NoFeed = lineWords line (ascii " has no line feed: press Enter at its end")
 lineSlipWords line LineSlip.Return = lineWords line (ascii " has a carriage return: save with Unix line ends")
 lineSlipWords line LineSlip.Blank = lineWords line (ascii " has a blank or a tab: write it with none")
+lineSlipWords line LineSlip.Pin =
+    lineWords line (ascii " begins with pin=, lo= is expected: only an eigen job has a pin line")
 
 unfoldable pub unlikeWords : ℕ → Unlike → Form → List ℕ
 unlikeWords line Unlike.Gone form = lineNot line (ascii " is missing") form
@@ -88,6 +95,7 @@ misspelledWords s Misspelling.OrderMark = markWords
 misspelledWords s (Misspelling.Line slip) = lineSlipWords (s .line) slip
 misspelledWords s (Misspelling.Unlike slip) = unlikeWords (s .line) slip (s .form)
 misspelledWords s (Misspelling.OtherKey own key) = otherKeyWords (s .line) own key
+misspelledWords s (Misspelling.NeitherKey key) = neitherKeyWords (s .line) key
 misspelledWords s (Misspelling.Number field wrong) = numberNot field wrong (s .form)
 misspelledWords s (Misspelling.Count expected found) = countNot (s .n) expected found
 misspelledWords s (Misspelling.Term k wrong) = wrongTermWords (s .n) k wrong (s .form)
@@ -155,6 +163,13 @@ unknownsWords n = counted (ascii "there are 1 to ") nMax (ascii " unknowns, not 
 abbrev pub stepsWords : ℤ → List ℕ
 stepsWords v = ascii "steps is " ++ valueWords v ++ counted (ascii ": it lies from 0 to ") stepsMax []
 
+unfoldable pub pinSlipWords : PinSlip → List ℕ
+pinSlipWords PinSlip.Last = ascii ": the last coordinate is pinned without this line, leave the line out"
+pinSlipWords (PinSlip.Out most) = pinRangeWords most
+
+abbrev pub pinnedWords : ℤ → PinSlip → List ℕ
+pinnedWords v slip = ascii "pin is " ++ valueWords v ++ pinSlipWords slip
+
 unfoldable pub slipWords : Slip → List ℕ
 slipWords Slip.Nothing = []
 slipWords Slip.Long = counted (ascii "a text has at most ") textMax (ascii " bytes, this one has more")
@@ -165,6 +180,7 @@ slipWords (Slip.Crossed at) = crossedWords at
 slipWords (Slip.Terms slip) = termWords slip
 slipWords Slip.Short = ascii "the answer is longer than its buffer"
 slipWords (Slip.Steps v) = stepsWords v
+slipWords (Slip.Pin v slip) = pinnedWords v slip
 
 -- the sentence of a slip that is the fault which the reader found stands from the start of the buffer on, as far as
 -- there is room, and every other byte is the old one; r is its length

@@ -6,7 +6,7 @@ use lib.Dec.{eqb}
 use lib.IntN.{ℤ, pos}
 use Rattle.digits.specs.Show.{showMagnitude, showNumber}
 use Rattle.sizes.specs.Sizes.{numberMax}
-use Rattle.text.specs.Words.{jobKey, kindKey, nKey, loKey, hiKey, invKey, stepsKey, eqKey, rowKey, verdictKey}
+use Rattle.text.specs.Words.{jobKey, kindKey, nKey, pinKey, loKey, hiKey, invKey, stepsKey, eqKey, rowKey, verdictKey}
 use Rattle.jobs.specs.Ranges.{isWithin}
 use Rattle.slips.specs.declared.Key.{Key}
 use Rattle.slips.specs.declared.Form.{Form}
@@ -29,6 +29,7 @@ abbrev pub keyWords : Key → List ℕ
 keyWords Key.Job = jobKey
 keyWords Key.Kind = kindKey
 keyWords Key.Unknowns = nKey
+keyWords Key.Pin = pinKey
 keyWords Key.Lo = loKey
 keyWords Key.Hi = hiKey
 keyWords Key.Inv = invKey
@@ -51,11 +52,22 @@ severalWords key m = keyWords key ++ counted (ascii " and ") m (ascii " numbers 
 abbrev pub numbersWords : Key → ℕ → List ℕ
 numbersWords key m = cond (eqb m 1) (keyWords key ++ ascii " and one number") (severalWords key m)
 
+-- of two coordinates only the first can be written
+abbrev pub pinWords : ℕ → List ℕ
+pinWords most = cond (eqb most 1) (ascii "pin=1") (counted (ascii "pin= and a number from 1 to ") most [])
+
+abbrev pub pinRangeWords : ℕ → List ℕ
+pinRangeWords most =
+    cond (eqb most 1) (ascii ": only 1 can stand here") (counted (ascii ": it lies from 1 to ") most [])
+
 -- what a line must be
 abbrev pub formWords : Form → List ℕ
 formWords Form.Number = ascii "job= and the job's number"
 formWords Form.Kind = ascii "kind=poly, kind=linear or kind=eigen"
 formWords Form.Unknowns = ascii "n= and one digit"
+formWords (Form.Pin most) = pinWords most
+formWords (Form.PinOrLo most m) = pinWords most ++ ascii ", or " ++ severalWords Key.Lo m
+formWords (Form.Unpinned m) = numbersWords Key.Lo m
 formWords (Form.Numbers key m) = numbersWords key m
 formWords (Form.Sided m) = counted (ascii "row= and ") m (ascii " numbers joined by commas, the right side last")
 formWords (Form.Terms n) =

@@ -4,11 +4,13 @@ mod spelled;
 mod values;
 
 use parts::put_count;
+use parts::put_pin_range;
 use parts::put_value;
 use parts::tell;
 use sizes::N;
 use sizes::STEPS;
 use sizes::TEXT;
+use slips::PinSlip;
 use slips::Slip;
 use slips::texts::job_slip;
 use slips::texts::result_slip;
@@ -22,7 +24,7 @@ ghost use Rattle.result_form.specs.ResultForm.{readResult};
 ghost use Rattle.slips.specs.declared.Slip.{Slip};
 ghost use Rattle.slips.specs.Slips.{foundIn};
 ghost use Rattle.sentences.specs.Says.{Says, sentenceMax};
-ghost use Rattle.sentences.specs.Sentences.{unknownsWords, stepsWords, slipWords, Explains};
+ghost use Rattle.sentences.specs.Sentences.{unknownsWords, stepsWords, pinnedWords, slipWords, Explains};
 
 // The longest sentence: a buffer of this size has room for any.
 pub const SENTENCE: usize = 256;
@@ -60,6 +62,21 @@ fn put_steps(out: &mut [u8], v: i64) -> usize
     tell(out, b, b": it lies from 0 to ", STEPS, b"")
 }
 
+fn put_pinned(out: &mut [u8], v: i64, slip: PinSlip) -> usize
+    ensures { λ r. ⌜ Says sentenceMax (now (out .entry)) (now (out .exit)) 0 r (pinnedWords v slip) ⌝ }
+{
+    let a = put_bytes(out, 0, b"pin is ");
+    let b = put_value(out, a, v);
+    match slip {
+        PinSlip::Last => put_bytes(
+            out,
+            b,
+            b": the last coordinate is pinned without this line, leave the line out",
+        ),
+        PinSlip::Out(most) => put_pin_range(out, b, most),
+    }
+}
+
 fn put_slip(out: &mut [u8], slip: Slip) -> usize
     ensures { λ r. ⌜ Says sentenceMax (now (out .entry)) (now (out .exit)) 0 r (slipWords slip) ⌝ }
 {
@@ -73,6 +90,7 @@ fn put_slip(out: &mut [u8], slip: Slip) -> usize
         Slip::Terms(slip) => put_terms(out, slip),
         Slip::Short => put_short(out),
         Slip::Steps(v) => put_steps(out, v),
+        Slip::Pin(v, slip) => put_pinned(out, v, slip),
     }
 }
 

@@ -15,9 +15,9 @@ ghost use lib.ListN.{length};
 ghost use Rattle.slips.specs.declared.Form.{Form};
 ghost use Rattle.sentences.specs.Says.{Says, keyMost, valueMost, fieldMost, wrongMost, formMost, expectedMost};
 ghost use Rattle.sentences.specs.Words.{countDigits, countWords, valueWords, keyWords, counted};
-ghost use Rattle.sentences.specs.Words.{severalWords, numbersWords};
+ghost use Rattle.sentences.specs.Words.{severalWords, numbersWords, pinWords, pinRangeWords};
 ghost use Rattle.sentences.specs.Words.{formWords, expectedWords, fieldWords, wrongWords};
-ghost use Rattle.sentences.specs.Says.{sentenceMax, placeMost, nounMost, someMost};
+ghost use Rattle.sentences.specs.Says.{sentenceMax, placeMost, nounMost, someMost, severalMost, pinMost};
 ghost use Rattle.sentences.specs.Words.{someWords};
 
 // The digits of a 64-bit number.
@@ -82,6 +82,7 @@ pub fn put_key(out: &mut [u8], at: usize, key: Key) -> usize
         Key::Job => put_bytes(out, at, b"job="),
         Key::Kind => put_bytes(out, at, b"kind="),
         Key::Unknowns => put_bytes(out, at, b"n="),
+        Key::Pin => put_bytes(out, at, b"pin="),
         Key::Lo => put_bytes(out, at, b"lo="),
         Key::Hi => put_bytes(out, at, b"hi="),
         Key::Inv => put_bytes(out, at, b"inv="),
@@ -94,8 +95,8 @@ pub fn put_key(out: &mut [u8], at: usize, key: Key) -> usize
 
 // A key and so many numbers.
 fn put_several(out: &mut [u8], at: usize, key: Key, m: u64) -> usize
-    requires { ⌜ at ≤ sentenceMax ⌝ }
-    ensures { λ r. ⌜ Says formMost (now (out .entry)) (now (out .exit)) at r (severalWords key m) ⌝ }
+    requires { ⌜ at + severalMost ≤ placeMost ⌝ }
+    ensures { λ r. ⌜ Says severalMost (now (out .entry)) (now (out .exit)) at r (severalWords key m) ⌝ }
 {
     let a = put_key(out, at, key);
     tell(out, a, b" and ", m, b" numbers joined by commas")
@@ -110,6 +111,36 @@ fn put_numbers(out: &mut [u8], at: usize, key: Key, m: usize) -> usize
         return put_bytes(out, a, b" and one number");
     }
     put_several(out, at, key, m as u64)
+}
+
+fn put_pin(out: &mut [u8], at: usize, most: usize) -> usize
+    requires { ⌜ at ≤ sentenceMax ⌝ }
+    ensures { λ r. ⌜ Says pinMost (now (out .entry)) (now (out .exit)) at r (pinWords most) ⌝ }
+{
+    if most == 1 {
+        return put_bytes(out, at, b"pin=1");
+    }
+    tell(out, at, b"pin= and a number from 1 to ", most as u64, b"")
+}
+
+// Where a pin lies.
+pub fn put_pin_range(out: &mut [u8], at: usize, most: usize) -> usize
+    requires { ⌜ at ≤ sentenceMax ⌝ }
+    ensures { λ r. ⌜ Says pinMost (now (out .entry)) (now (out .exit)) at r (pinRangeWords most) ⌝ }
+{
+    if most == 1 {
+        return put_bytes(out, at, b": only 1 can stand here");
+    }
+    tell(out, at, b": it lies from 1 to ", most as u64, b"")
+}
+
+fn put_pin_or_lo(out: &mut [u8], at: usize, most: usize, m: usize) -> usize
+    requires { ⌜ at ≤ sentenceMax ⌝ }
+    ensures { λ r. ⌜ Says formMost (now (out .entry)) (now (out .exit)) at r (formWords (Form.PinOrLo most m)) ⌝ }
+{
+    let a = put_pin(out, at, most);
+    let b = put_bytes(out, a, b", or ");
+    put_several(out, b, Key::Lo, m as u64)
 }
 
 fn put_sided(out: &mut [u8], at: usize, m: usize) -> usize
@@ -137,6 +168,9 @@ fn put_form(out: &mut [u8], at: usize, form: Form) -> usize
         Form::Number => put_bytes(out, at, b"job= and the job's number"),
         Form::Kind => put_bytes(out, at, b"kind=poly, kind=linear or kind=eigen"),
         Form::Unknowns => put_bytes(out, at, b"n= and one digit"),
+        Form::Pin(most) => put_pin(out, at, most),
+        Form::PinOrLo(most, m) => put_pin_or_lo(out, at, most, m),
+        Form::Unpinned(m) => put_numbers(out, at, Key::Lo, m),
         Form::Numbers(key, m) => put_numbers(out, at, key, m),
         Form::Sided(m) => put_sided(out, at, m),
         Form::Terms(n) => put_terms_form(out, at, n),

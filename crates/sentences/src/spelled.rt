@@ -19,9 +19,9 @@ use writing::put_bytes;
 ghost use Prim.Native.Nat.{_≤_};
 ghost use lib.ListN.{length};
 ghost use Rattle.sentences.specs.Says.{Says, sentenceMax, wordsMost};
-ghost use Rattle.sentences.specs.Sentences.{lineWords, lineNot, otherKeyWords, numberNot, countNot};
-ghost use Rattle.sentences.specs.Sentences.{exponentsNot, termNot, emptyWords, markWords, lineSlipWords};
-ghost use Rattle.sentences.specs.Sentences.{unlikeWords, wrongTermWords, misspelledWords};
+ghost use Rattle.sentences.specs.Sentences.{lineWords, lineNot, otherKeyWords, neitherKeyWords, numberNot};
+ghost use Rattle.sentences.specs.Sentences.{countNot, exponentsNot, termNot, emptyWords, markWords};
+ghost use Rattle.sentences.specs.Sentences.{lineSlipWords, unlikeWords, wrongTermWords, misspelledWords};
 
 fn put_line(out: &mut [u8], line: u64, words: &[u8]) -> usize
     requires { ⌜ length (now words) ≤ wordsMost ⌝ }
@@ -47,6 +47,14 @@ fn put_other_key(out: &mut [u8], line: u64, own: Key, key: Key) -> usize
     let c = put_bytes(out, b, b", ");
     let d = put_key(out, c, own);
     put_bytes(out, d, b" is expected")
+}
+
+fn put_neither_key(out: &mut [u8], line: u64, key: Key) -> usize
+    ensures { λ r. ⌜ Says sentenceMax (now (out .entry)) (now (out .exit)) 0 r (neitherKeyWords line key) ⌝ }
+{
+    let a = tell(out, 0, b"line ", line, b" begins with ");
+    let b = put_key(out, a, key);
+    put_bytes(out, b, b", pin= or lo= is expected")
 }
 
 fn put_number_not(out: &mut [u8], field: Field, wrong: Wrong, form: Form) -> usize
@@ -127,6 +135,11 @@ fn put_line_slip(out: &mut [u8], line: u64, slip: LineSlip) -> usize
             b" has a carriage return: save with Unix line ends",
         ),
         LineSlip::Blank => put_line(out, line, b" has a blank or a tab: write it with none"),
+        LineSlip::Pin => put_line(
+            out,
+            line,
+            b" begins with pin=, lo= is expected: only an eigen job has a pin line",
+        ),
     }
 }
 
@@ -164,6 +177,7 @@ pub fn put_misspelled(out: &mut [u8], s: Spelled) -> usize
         Misspelling::Line(it) => put_line_slip(out, s.line, it),
         Misspelling::Unlike(it) => put_unlike(out, s.line, it, form),
         Misspelling::OtherKey(own, key) => put_other_key(out, s.line, own, key),
+        Misspelling::NeitherKey(key) => put_neither_key(out, s.line, key),
         Misspelling::Number(field, wrong) => put_number_not(out, field, wrong, form),
         Misspelling::Count(expected, found) => put_count_not(out, s.n, expected, found),
         Misspelling::Term(k, wrong) => put_wrong_term(out, s.n, k, wrong, form),

@@ -20,6 +20,7 @@ faultOf (Slip.Crossed at) = Finding.Bad Fault.Crossed
 faultOf (Slip.Terms slip) = Finding.Bad Fault.Terms
 faultOf Slip.Short = Finding.Bad Fault.ShortBuffer
 faultOf (Slip.Steps v) = Finding.Bad Fault.Steps
+faultOf (Slip.Pin v slip) = Finding.Bad Fault.Pin
 
 -- the fault that a reader found
 abbrev pub foundIn : Status → Finding

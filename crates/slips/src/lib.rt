@@ -13,6 +13,7 @@ pub enum Key {
     Job,
     Kind,
     Unknowns,
+    Pin,
     Lo,
     Hi,
     Inv,
@@ -22,11 +23,15 @@ pub enum Key {
     Verdict,
 }
 
-// What a line must be: so many numbers after a key, the right side last; terms with so many exponents.
+// What a line must be: so many numbers after a key, the right side last; terms with so many exponents; a pin up to
+// this one. PinOrLo is the line after an eigen job's n where neither key stands, Unpinned the low ends of another job.
 pub enum Form {
     Number,
     Kind,
     Unknowns,
+    Pin(usize),
+    PinOrLo(usize, usize),
+    Unpinned(usize),
     Numbers(Key, usize),
     Sided(usize),
     Terms(usize),
@@ -69,6 +74,7 @@ pub enum LineSlip {
     NoFeed,
     Return,
     Blank,
+    Pin,
 }
 
 // How a line is unlike what it must be.
@@ -88,6 +94,7 @@ pub enum Misspelling {
     Line(LineSlip),
     Unlike(Unlike),
     OtherKey(Key, Key),
+    NeitherKey(Key),
     Number(Field, Wrong),
     Count(usize, usize),
     Term(usize, WrongTerm),
@@ -118,6 +125,12 @@ pub enum TermSlip {
     Unplaced,
 }
 
+// Fault 9: the last coordinate, which is pinned without a line, or a pin that does not lie from 1 to this one.
+pub enum PinSlip {
+    Last,
+    Out(usize),
+}
+
 // A line that is wrongly spelled: its number, the unknowns, what it must be and what is wrong.
 pub struct Spelled {
     pub line: u64,
@@ -137,4 +150,5 @@ pub enum Slip {
     Terms(TermSlip),
     Short,
     Steps(i64),
+    Pin(i64, PinSlip),
 }

@@ -108,6 +108,7 @@ pub fn past_key(text: &[u8], at: usize, key: Key) -> usize
         Key::Job => past(text, at, b"job="),
         Key::Kind => past(text, at, b"kind="),
         Key::Unknowns => past(text, at, b"n="),
+        Key::Pin => past(text, at, b"pin="),
         Key::Lo => past(text, at, b"lo="),
         Key::Hi => past(text, at, b"hi="),
         Key::Inv => past(text, at, b"inv="),

@@ -71,6 +71,9 @@ fn key_there(text: &[u8], at: usize) -> Keyed
     if at < past_key(text, at, Key::Unknowns) {
         return Keyed::By(Key::Unknowns);
     }
+    if at < past_key(text, at, Key::Pin) {
+        return Keyed::By(Key::Pin);
+    }
     if at < past_key(text, at, Key::Lo) {
         return Keyed::By(Key::Lo);
     }
@@ -95,18 +98,34 @@ fn key_there(text: &[u8], at: usize) -> Keyed
     Keyed::None
 }
 
+// In place of the low ends of a job that has no pin line.
+fn not_lo(key: Key) -> Misspelling {
+    match key {
+        Key::Pin => Misspelling::Line(LineSlip::Pin),
+        _ => Misspelling::OtherKey(Key::Lo, key),
+    }
+}
+
+fn wrong_key(form: Form, own: Key, key: Key) -> Misspelling {
+    match form {
+        Form::PinOrLo(_, _) => Misspelling::NeitherKey(key),
+        Form::Unpinned(_) => not_lo(key),
+        _ => Misspelling::OtherKey(own, key),
+    }
+}
+
 // Another key than the line's own, or none.
-fn other_key(text: &[u8], at: usize, own: Key) -> Misspelling
+fn other_key(text: &[u8], at: usize, form: Form, own: Key) -> Misspelling
     requires { ⌜ at ≤ length (now text) ⌝ }
 {
     match key_there(text, at) {
         Keyed::None => Misspelling::Unlike(Unlike::NoKey),
-        Keyed::By(key) => Misspelling::OtherKey(own, key),
+        Keyed::By(key) => wrong_key(form, own, key),
     }
 }
 
 // The line's own key does not stand there.
-fn unkeyed(text: &[u8], at: usize, own: Key) -> Misspelling
+fn unkeyed(text: &[u8], at: usize, form: Form, own: Key) -> Misspelling
     requires { ⌜ at ≤ length (now text) ⌝ }
 {
     if at == 0 {
@@ -119,7 +138,7 @@ fn unkeyed(text: &[u8], at: usize, own: Key) -> Misspelling
         Stand::Return => Misspelling::Line(LineSlip::Return),
         Stand::Blank => Misspelling::Line(LineSlip::Blank),
         Stand::Capital => Misspelling::Unlike(Unlike::Capital),
-        _ => other_key(text, at, own),
+        _ => other_key(text, at, form, own),
     }
 }
 
@@ -131,6 +150,9 @@ fn keyed(text: &[u8], from: usize, form: Form, n: usize) -> Misspelling
         Form::Number => only_number(text, from),
         Form::Kind => word(text, from),
         Form::Unknowns => digit(text, from),
+        Form::Pin(_) => only_number(text, from),
+        Form::PinOrLo(_, m) => numbers(text, from, m),
+        Form::Unpinned(m) => numbers(text, from, m),
         Form::Numbers(_, m) => numbers(text, from, m),
         Form::Sided(m) => numbers(text, from, m),
         Form::Terms(_) => terms(text, from, n),
@@ -161,7 +183,7 @@ pub fn line_slip(text: &[u8], at: usize, form: Form, n: usize) -> Misspelling
         Keyed::By(key) => {
             let from = past_key(text, at, key);
             if from == at {
-                return unkeyed(text, at, key);
+                return unkeyed(text, at, form, key);
             }
             keyed(text, from, form, n)
         }

@@ -13,6 +13,7 @@ use crate::spelling::line_slip;
 use crate::values::count;
 use crate::values::crossing;
 use crate::values::far;
+use crate::values::pin_slip;
 use crate::values::terms_slip;
 use crate::values::value;
 use faults::Fault;
@@ -86,6 +87,15 @@ fn spelled(text: &[u8], s: Seen) -> Spelled
     }
 }
 
+// The pin by its own key, which with one unknown is not that of the form.
+fn pinned(text: &[u8], s: Seen) -> Slip
+    requires { ⌜ Inside (now text) s ⌝ }
+    ensures { λ r. ⌜ faultOf r ≡ Finding.Bad Fault.Pin ⌝ }
+{
+    let v = value(text, past_key(text, s.at, Key::Pin));
+    Slip::Pin(v, pin_slip(v, s.n))
+}
+
 fn slip_of(text: &[u8], f: Fault, s: Seen) -> Slip
     requires { ⌜ Inside (now text) s ⌝ }
     ensures { λ r. ⌜ faultOf r ≡ Finding.Bad f ⌝ }
@@ -100,6 +110,7 @@ fn slip_of(text: &[u8], f: Fault, s: Seen) -> Slip
         Fault::Terms => Slip::Terms(terms_slip(text, s.from, s.n)),
         Fault::ShortBuffer => Slip::Short,
         Fault::Steps => Slip::Steps(value(text, s.from)),
+        Fault::Pin => pinned(text, s),
     }
 }
 
@@ -113,7 +124,7 @@ fn few(n: usize) -> usize
     0
 }
 
-// The line of a job text that has this number; the lines before it are right.
+// The line of a job text that has this number; the lines before it are right, and beside a bad pin kind and n are too.
 fn job_seen(text: &[u8], line: u64) -> Seen
     ensures { λ r. ⌜ Inside (now (text .entry)) r ⌝ }
 {
@@ -125,9 +136,10 @@ fn job_seen(text: &[u8], line: u64) -> Seen
         number: told.number,
         kind,
         n,
+        pin: told.pin,
     };
-    let form = job_form(job_line_of(line, head), kind, n);
     let at = line_start(text, line);
+    let form = job_form(text, at, job_line_of(line, head), head);
     let low = line_start(text, job_line_number(JobLine::Lo, head));
     Seen {
         line,

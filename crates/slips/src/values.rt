@@ -3,6 +3,7 @@ use crate::Crossing;
 use crate::Far;
 use crate::Form;
 use crate::Key;
+use crate::PinSlip;
 use crate::TermSlip;
 use crate::terms::term_slip;
 use jobs::Equation;
@@ -24,6 +25,19 @@ pub fn value(text: &[u8], from: usize) -> i64
 {
     let r = number_at(text, from);
     r.v
+}
+
+// How a pin that is well spelled is wrong. The only one of one unknown is the last.
+pub fn pin_slip(v: i64, n: usize) -> PinSlip
+    requires { ⌜ n ≤ nMax ⌝ }
+{
+    if n <= 1 {
+        return PinSlip::Last;
+    }
+    if v == n as i64 {
+        return PinSlip::Last;
+    }
+    PinSlip::Out(n - 1)
 }
 
 // How many numbers the line has.
@@ -102,6 +116,7 @@ pub fn far(text: &[u8], from: usize, form: Form, n: usize) -> Far
 {
     match form {
         Form::Number => Far::Job(value(text, from)),
+        Form::Unpinned(_) => far_end(text, from),
         Form::Numbers(key, _) => far_number(text, from, key),
         Form::Sided(_) => far_entry(text, from),
         Form::Terms(_) => {

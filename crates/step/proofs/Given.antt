@@ -1,5 +1,5 @@
--- What an accepted job gives a step: its equations, its inverse and a box in range are what a step takes, and the code's
--- lists of them make the job's own image.
+-- What an accepted job gives a step: its equations, its inverse and a box in range are what a step takes, and the
+-- code's lists of them make the job's own image.
 use mathlib.Core.Path.{_≡_, refl, sym, ap, ap₂, _∙_}
 use mathlib.Core.List.{List, []}
 use Prim.Native.Nat.{ℕ, _≤_, _<_}
@@ -60,7 +60,7 @@ box-back n room f {x} e =
 
 module _ {j : Job} (a : Accepted j) where
   pub job-in : JobIn j
-  job-in = record { some = a .some; places = a .few; parts = by (j .head .kind) (a .system) }
+  job-in = record { some = a .some; places = a .few; pin = a .pin; parts = by (j .head .kind) (a .system) }
     where
       by : (k : Kind) → ((i : ℕ) → i < j .head .n → GoodSystem k j i) → PartsIn k j
       by Kind.Poly g = record { each = λ i l. equation-in (j .head .n) (equationAt (j .system .eqs) i) (g i l) }
@@ -91,7 +91,8 @@ module _ (n : ℕ) {q r : ℕ → Equation} {C D : ℕ → ℕ → ℤ}
 
 -- the code's lists of an accepted job
 module _ (j : Job) (done : checkJob j ≡ Status.Done) {eqs : List Equation} {c : List (List ℤ)}
-    (made-eqs : eqs ≡ equationsOf j) (made-c : c ≡ tab nMax (j .head .n) (replicate nMax (pos 0)) (rowAt (j .inv))) where
+    (made-eqs : eqs ≡ equationsOf j)
+    (made-c : c ≡ tab nMax (j .head .n) (replicate nMax (pos 0)) (rowAt (j .inv))) where
   entry-at : (i k : ℕ) → i < j .head .n → entryAt c i k ≡ inverseOf j i k
   entry-at i k l =
       let row = getD-tab (replicate nMax (pos 0)) nMax (j .head .n) (rowAt (j .inv)) [] i l (check-done j done .few) in
@@ -108,4 +109,5 @@ module _ (j : Job) (done : checkJob j ≡ Status.Done) {eqs : List Equation} {c 
   pub image-made : (x : List Interval) → imageBox (j .head .n) (equationAt eqs) (entryAt c) x
       ≡ imageBox (j .head .n) (equationOf j) (inverseOf j) x
   image-made =
-      box-cong (j .head .n) (λ i l. rw made-eqs (equations-at j (check-done j done .few) i l)) (λ i k l _. entry-at i k l)
+      box-cong (j .head .n) (λ i l. rw made-eqs (equations-at j (check-done j done .few) i l))
+      (λ i k l _. entry-at i k l)

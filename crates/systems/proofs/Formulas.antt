@@ -21,6 +21,7 @@ use Rattle.integers.proofs.Sums.{sum-cong, sum-mul-r}
 use Rattle.intervals.specs.Interval.{mark}
 use Rattle.intervals.specs.Places.{numberAt}
 use Rattle.jobs.specs.Places.{noTerm}
+use Rattle.jobs.specs.Accepted.{GoodPin}
 use Rattle.jobs.specs.declared.Kind.{Kind}
 use Rattle.jobs.specs.declared.Term.{Term}
 use Rattle.jobs.specs.declared.Equation.{Equation}
@@ -105,11 +106,11 @@ module _ (n : ℕ) (room : n ≤ nMax) (a : ℕ → ℤ) (b : ℤ) where
       (λ s b u w. (s ⊕ neg b ⊗ u) ⊗ w) (λ s b u w. (s ⊖ b ⊗ u) ⊗ w) refl
 
 -- ---- "Eigenpair", with any coordinate p of the vector set to 1
-coordinate-one : (p : ℕ) (P : ℕ → ℤ) (d : ℤ) → coordinate p P d p ≡ unitsOf d
+pub coordinate-one : (p : ℕ) (P : ℕ → ℤ) (d : ℤ) → coordinate p P d p ≡ unitsOf d
 unfolding coordinate
 coordinate-one p P d = rw (eq-eqb p p refl)
 
-coordinate-other : {p j : ℕ} (P : ℕ → ℤ) (d : ℤ) → (j ≡ p → ⊥) → coordinate p P d j ≡ P j
+pub coordinate-other : {p j : ℕ} (P : ℕ → ℤ) (d : ℤ) → (j ≡ p → ⊥) → coordinate p P d j ≡ P j
 unfolding coordinate
 coordinate-other {p} {j} P d h = rw (ne-eqb j p h)
 
@@ -164,30 +165,41 @@ eigen-last m a i P d = rw (sum-cong m (λ j. a j *ℤ coordinate m P d j) (λ j.
     early j l = let ne : j ≡ m → ⊥ = λ e. omega arith in rw (coordinate-other P d ne)
 
 -- ---- a job
-module _ (j : Job) (room : j .head .n ≤ nMax) (i : ℕ) (l : i < j .head .n) where
+pub pinned-below : (j : Job) → GoodPin Kind.Eigen (j .head .n) (j .head .pin) → pinned j < j .head .n
+pinned-below j g = omega (arith, g .0, g .1)
+
+module _ (j : Job) (room : j .head .n ≤ nMax) (pin : GoodPin (j .head .kind) (j .head .n) (j .head .pin)) (i : ℕ)
+    (l : i < j .head .n) where
   pub equation-is : (P : ℕ → ℤ) (d : ℤ) → equationNum (j .head .n) (equationOf j i) P d ≡ formulaNum j i P d
   unfolding equationOf formulaNum
-  equation-is P d = by (j .head .kind)
+  equation-is P d = by (j .head .kind) pin
     where
-      by : (k : Kind) → equationNum (j .head .n) (equationBy k j i) P d ≡ formulaBy k j i P d
-      by Kind.Poly = refl
-      by Kind.Linear = linear-is (j .head .n) room (rowOf j i) (numberAt (j .system .right) i) P d
-      by Kind.Eigen = eigen-is (j .head .n) (pinned j) room (omega arith) (rowOf j i) i l P d
+      by : (k : Kind) → GoodPin k (j .head .n) (j .head .pin)
+          → equationNum (j .head .n) (equationBy k j i) P d ≡ formulaBy k j i P d
+      by Kind.Poly g = refl
+      by Kind.Linear g = linear-is (j .head .n) room (rowOf j i) (numberAt (j .system .right) i) P d
+      by Kind.Eigen g = eigen-is (j .head .n) (pinned j) room (pinned-below j g) (rowOf j i) i l P d
 
   -- a given polynomial's degrees are its own
   pub equation-degrees : (j .head .kind ≡ Kind.Poly → DegreesIn (j .head .n) (equationBy Kind.Poly j i))
       → DegreesIn (j .head .n) (equationOf j i)
   unfolding equationOf
-  equation-degrees given = by (j .head .kind) given
+  equation-degrees given = by (j .head .kind) pin given
     where
-      by : (k : Kind) → (k ≡ Kind.Poly → DegreesIn (j .head .n) (equationBy Kind.Poly j i))
+      by : (k : Kind) → GoodPin k (j .head .n) (j .head .pin)
+          → (k ≡ Kind.Poly → DegreesIn (j .head .n) (equationBy Kind.Poly j i))
           → DegreesIn (j .head .n) (equationBy k j i)
-      by Kind.Poly h = h refl
-      by Kind.Linear h = record {
+      by Kind.Poly g h = h refl
+      by Kind.Linear g h = record {
         each = λ t u.
             omega (arith, linear-exact (j .head .n) room (rowOf j i) (numberAt (j .system .right) i) .deg t u);
       }
-      by Kind.Eigen h = record {
+      by Kind.Eigen g h = record {
         each = λ t u.
-            omega (arith, eigen-exact (j .head .n) (pinned j) room (omega arith) (rowOf j i) i l .deg t u);
+            omega (arith, eigen-exact (j .head .n) (pinned j) room (pinned-below j g) (rowOf j i) i l .deg t u);
       }
+
+pub formula-eigen : (j : Job) → j .head .kind ≡ Kind.Eigen → (i : ℕ) (P : ℕ → ℤ) (d : ℤ)
+    → formulaNum j i P d ≡ eigenNum (j .head .n) (pinned j) (rowOf j i) i P d
+unfolding formulaNum
+formula-eigen j e i P d = ap (λ (k : Kind). formulaBy k j i P d) e

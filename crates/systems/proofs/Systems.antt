@@ -12,6 +12,7 @@ use Rattle.intervals.specs.Interval.{mark}
 use Rattle.jobs.specs.Places.{noEquation, equationAt}
 use Rattle.jobs.specs.Zero.{zeroEquation}
 use Rattle.intervals.specs.Places.{numberAt}
+use Rattle.jobs.specs.Accepted.{GoodPin}
 use Rattle.jobs.specs.declared.Kind.{Kind}
 use Rattle.jobs.specs.declared.Job.{Job}
 use Rattle.systems.specs.Terms.{coefOf}
@@ -20,12 +21,15 @@ use Rattle.systems.specs.Kinds.{rowOf, pinned, equationBy, equationOf, e
 use Rattle.systems.specs.Ranges.{EquationIn, SystemIn, EntriesIn, PartsIn, JobIn}
 use Rattle.systems.specs.Fractions.{DegreesIn}
 use Rattle.systems.proofs.Exponents.{row-entry, row-last}
-use Rattle.systems.proofs.Formulas.{built-coef, linear-exact, eigen-exact}
+use Rattle.systems.proofs.Formulas.{built-coef, linear-exact, eigen-exact, pinned-below}
 
 module _ (j : Job) {k : Kind} (e : j .head .kind ≡ k) where
   pub equation-by : (i : ℕ) → equationOf j i ≡ equationBy k j i
   unfolding equationOf
   equation-by i = ap (λ k. equationBy k j i) e
+
+  pub pin-by : JobIn j → GoodPin k (j .head .n) (j .head .pin)
+  pin-by h = subst (λ k. GoodPin k (j .head .n) (j .head .pin)) e (h .pin)
 
   pub parts-by : JobIn j → PartsIn k j
   parts-by h = subst (λ k. PartsIn k j) e (h .parts)
@@ -61,12 +65,12 @@ system-in {j} h = record { each = λ i l. by (j .head .kind) refl i l }
             let d = linear-exact (j .head .n) (h .places) (rowOf j i) (numberAt (j .system .right) i) in
             unfold linearEquation in
             (built-in unitE (p .0 i l) (p .1 .each i l) (record { each = λ t u. omega (arith, d .deg t u) }))
-    by Kind.Eigen e i l = rw (equation-by j e i) (eigen (parts-by j e h))
+    by Kind.Eigen e i l = rw (equation-by j e i) (eigen (pin-by j e h) (parts-by j e h))
       where
-        eigen : PartsIn Kind.Eigen j → EquationIn (j .head .n) (equationBy Kind.Eigen j i)
-        eigen p =
-            let some = h .some in
-            let d = eigen-exact (j .head .n) (pinned j) (h .places) (omega arith) (rowOf j i) i l in
+        eigen : GoodPin Kind.Eigen (j .head .n) (j .head .pin) → PartsIn Kind.Eigen j
+            → EquationIn (j .head .n) (equationBy Kind.Eigen j i)
+        eigen g p =
+            let d = eigen-exact (j .head .n) (pinned j) (h .places) (pinned-below j g) (rowOf j i) i l in
             unfold eigenEquation in
             (built-in (eigenE (j .head .n) (pinned j) i) (p i l) (within-lit (pos mark) entryMax tt)
             (record { each = λ t u. omega (arith, d .deg t u) }))

@@ -18,7 +18,7 @@ use Rattle.systems.specs.Kinds.{pinned, rowOf, equationBy}
 unfoldable pub linearNum : ℕ → (ℕ → ℤ) → ℤ → (ℕ → ℤ) → ℤ → ℤ
 linearNum n a b P d = (sumTo n (λ j. a j *ℤ P j) -ℤ b *ℤ unitsOf d) *ℤ power (unitsOf d) (degreeMax - 1)
 
--- coordinate j of the eigenvector, over 65,536 d: coordinate p "is set to 1", the others are unknowns
+-- coordinate j of the eigenvector, over 65,536 d: coordinate p "is 1", the others are unknowns
 unfoldable pub coordinate : ℕ → (ℕ → ℤ) → ℤ → ℕ → ℤ
 coordinate p P d j = cond (eqb j p) (unitsOf d) (P j)
 

@@ -40,16 +40,16 @@ unfoldable pub linearEquation : ℕ → (ℕ → ℤ) → ℤ → Equation
 linearEquation n a b = build n (rowCoef n a b) unitE
 
 -- "Equation i is the sum of a(i,j) x(j) over j < n, plus a(i,n), minus L x(i), where x(n) is 1", each its own term.
--- Here coordinate p is 1, and unknown p is L.
+-- Here coordinate p is 1, and unknown p is L: document 02, P2.
 abbrev pub eigenE : ℕ → ℕ → ℕ → ℕ → ℕ → ℕ
 eigenE n p i t k = cond (ltb t n) (vectorE p t k) (unitE p k + vectorE p i k)
 
 unfoldable pub eigenEquation : ℕ → ℕ → (ℕ → ℤ) → ℕ → Equation
 eigenEquation n p a i = build n (rowCoef n a (pos mark)) (eigenE n p i)
 
--- "the last coordinate of the vector is set to 1"
+-- document 02, P2: "coordinate pin is 1 and the eigenvalue takes its place as that unknown"; here counted from 0
 abbrev pub pinned : Job → ℕ
-pinned j = j .head .n - 1
+pinned j = j .head .pin - 1
 
 -- row i of the matrix
 abbrev pub rowOf : Job → ℕ → ℕ → ℤ

@@ -10,6 +10,7 @@ use Rattle.sizes.specs.Bounds.{termMax}
 use Rattle.intervals.specs.Places.{numberAt}
 use Rattle.jobs.specs.Places.{equationAt}
 use Rattle.jobs.specs.Terms.{degree}
+use Rattle.jobs.specs.Accepted.{GoodPin}
 use Rattle.intervals.specs.declared.Interval.{Interval}
 use Rattle.jobs.specs.declared.Kind.{Kind}
 use Rattle.jobs.specs.declared.Equation.{Equation}
@@ -52,6 +53,7 @@ PartsIn Kind.Eigen j = (i : ℕ) → i < j .head .n → EntriesIn (j .head .n) (
 pub record JobIn (j : Job) : Type 0 where
   pub some : 0 < j .head .n
   pub places : j .head .n ≤ nMax
+  pub pin : GoodPin (j .head .kind) (j .head .n) (j .head .pin)
   pub parts : PartsIn (j .head .kind) j
 
 -- what the multiplication of a by the power e of x asks

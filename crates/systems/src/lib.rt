@@ -250,7 +250,7 @@ pub fn equation_of(j: Job, i: usize) -> Equation
         Kind::Eigen => {
             let row = system.rows[i];
             let at = row.at;
-            eigen_equation(at, i, n - 1, n)
+            eigen_equation(at, i, head.pin - 1, n)
         }
     }
 }

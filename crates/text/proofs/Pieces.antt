@@ -10,7 +10,7 @@ use lib.IntN.{ℤ, pos, negsuc}
 use Rattle.digits.specs.Bytes.{comma, minusSign, digit0}
 use Rattle.digits.specs.Show.{showMagnitude, showSigned}
 use Rattle.digits.proofs.Cases.{same-or}
-use Rattle.text.specs.Cut.{Cut, fresh, feed, feeds, endEach}
+use Rattle.text.specs.Cut.{Cut, fresh, feed, feeds, snoc, pieces, rest, endEach}
 use Rattle.text.specs.Lists.{afterCommas, joined}
 use Rattle.text.proofs.Cuts.{closed, feed-sep, feed-held, feeds-none, feeds-cons}
 
@@ -98,19 +98,6 @@ module _ {S : Type 0} (step : S → List ℕ → S) where
       ∙ fed-joined (step st x) y ys (q .0) (q .1)
 
 -- ---- from a text to its pieces
-
-abbrev snoc : List (List ℕ) → List ℕ → List (List ℕ)
-snoc ps p = ps ++ (p ∷ [])
-
-abbrev cutOf : ℕ → List ℕ → Cut (List (List ℕ))
-cutOf sep t = feeds snoc sep (fresh []) t
-
--- the pieces that a separator ends, and the bytes after the last separator
-unfoldable pub pieces : ℕ → List ℕ → List (List ℕ)
-pieces sep t = cutOf sep t .st
-
-unfoldable pub rest : ℕ → List ℕ → List ℕ
-rest sep t = cutOf sep t .held
 
 module _ {S : Type 0} (step : S → List ℕ → S) (sep : ℕ) (st : S) where
   cut-from : (t : List ℕ) (k : Cut (List (List ℕ)))

@@ -24,6 +24,17 @@ feed step sep k b =
 unfoldable pub feeds : {S : Type 0} → (S → List ℕ → S) → ℕ → Cut S → List ℕ → Cut S
 feeds step sep k bs = foldl (feed step sep) k bs
 
+-- one piece more
+abbrev pub snoc : List (List ℕ) → List ℕ → List (List ℕ)
+snoc ps p = ps ++ (p ∷ [])
+
+-- the pieces that a separator ends, and the bytes after the last separator
+unfoldable pub pieces : ℕ → List ℕ → List (List ℕ)
+pieces sep t = feeds snoc sep (fresh []) t .st
+
+unfoldable pub rest : ℕ → List ℕ → List ℕ
+rest sep t = feeds snoc sep (fresh []) t .held
+
 -- the place of the first separator; the length where there is none
 unfoldable pub placeOf : ℕ → List ℕ → ℕ
 placeOf sep [] = 0

@@ -14,6 +14,10 @@ kindKey = 107 ∷ 105 ∷ 110 ∷ 100 ∷ 61 ∷ []
 abbrev pub nKey : List ℕ
 nKey = 110 ∷ 61 ∷ []
 
+-- pin=
+abbrev pub pinKey : List ℕ
+pinKey = 112 ∷ 105 ∷ 110 ∷ 61 ∷ []
+
 -- lo=
 abbrev pub loKey : List ℕ
 loKey = 108 ∷ 111 ∷ 61 ∷ []

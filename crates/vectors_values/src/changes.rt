@@ -17,6 +17,12 @@ pub fn unknowns(j: Job, n: usize) -> Job {
     r
 }
 
+pub fn pin(j: Job, pin: usize) -> Job {
+    let mut r = j;
+    r.head.pin = pin;
+    r
+}
+
 pub fn steps(j: Job, steps: u64) -> Job {
     let mut r = j;
     r.steps = steps;

@@ -11,6 +11,7 @@ use changes::first_terms;
 use changes::inverse;
 use changes::last_term;
 use changes::number;
+use changes::pin;
 use changes::result_ends;
 use changes::result_number;
 use changes::result_steps;
@@ -78,6 +79,23 @@ fn matrices() {
     job(b"eigen, entry least", entry(e, LEAST));
 }
 
+// A pin of n stands for the last; any other moves the lines after it.
+fn pins() {
+    let e = values::eigen();
+    let p = pin(e, 1);
+    job(b"pin 1", p);
+    job(b"pin 0", pin(e, 0));
+    job(b"pin 3", pin(e, 3));
+    job(b"pin at most", pin(e, MOST as usize));
+    job(b"n and pin", pin(unknowns(e, 5), 0));
+    job(b"pin and low end", pin(ends(e, -262145, 0), 0));
+    job(b"pin 1, low end beyond", ends(p, -262145, 0));
+    job(b"pin 1, ends crossed", ends(p, 1, 0));
+    job(b"pin 1, inverse beyond", inverse(p, 4194305));
+    job(b"pin 1, steps 1001", steps(p, 1001));
+    job(b"pin 1, entry least", entry(p, LEAST));
+}
+
 fn results() {
     let r = values::result();
     result(b"result", r);
@@ -101,6 +119,11 @@ fn job_rooms() {
     let mut byte = [b'.'; 1];
     job_into(p, &mut byte);
     job_into(unknowns(p, 5), &mut byte);
+    let e = pin(values::eigen(), 1);
+    let mut pinned = [b'.'; 123];
+    job_into(e, &mut pinned);
+    let mut less = [b'.'; 122];
+    job_into(e, &mut less);
 }
 
 fn result_rooms() {
@@ -118,6 +141,7 @@ fn main() {
     sides();
     terms();
     matrices();
+    pins();
     results();
     job_rooms();
     result_rooms();

@@ -10,7 +10,7 @@ use Rattle.intervals.specs.Places.{numberAt}
 use Rattle.jobs.specs.declared.Kind.{Kind}
 use Rattle.jobs.specs.declared.Job.{Job}
 use Rattle.systems.specs.Ranges.{JobIn}
-use Rattle.systems.proofs.Systems.{equation-by, parts-by}
+use Rattle.systems.proofs.Systems.{equation-by, pin-by, parts-by}
 use Rattle.systems.proofs.equation_of.Statement.{statement}
 use Rattle.systems.proofs.equation_of.Tie as tie
 
@@ -24,6 +24,11 @@ linear-equation-requires c κs =
     let e = c .before .before .before .enum-told2 .given .1 in
     (p .0 .places, rw (back (right-fits _ e (p .0) _ (p .1))) (parts-by _ e (p .0) .1 .each _ (p .1)))
 
+sub-eigen-equation : tie.Need-sub-eigen-equation
+sub-eigen-equation c =
+    let p = c .before .before .before .before .before .before .before .pre in
+    pin-by _ (c .before .before .before .enum-told3 .given .1) (p .0) .0
+
 returns : tie.Need-returns
 returns c = sym (equation-by _ (c .before .enum-told .given .1) _)
 
@@ -34,11 +39,12 @@ returns-2 c =
     rw (back (right-fits _ e (p .0) _ (p .1))) at (c .linear-equation .ensures) ∙ sym (equation-by _ e _)
 
 returns-3 : tie.Need-returns-3
-returns-3 c = c .eigen-equation .ensures ∙ sym (equation-by _ (c .before .before .before .enum-told3 .given .1) _)
+returns-3 c =
+    c .eigen-equation .ensures ∙ sym (equation-by _ (c .before .before .before .before .enum-told3 .given .1) _)
 
 pub equation-of-spec : {M : Type 1} → statement M
 equation-of-spec =
     tie.close
     (tie.spec (λ c. search needs) (λ c. search needs) (λ c. search needs) (λ c. search needs) (λ c. search needs)
     (λ c. search needs) (λ c. search needs) (λ c. search needs) linear-equation-requires (λ c. search needs)
-    (λ c. search needs) (λ c. search needs) (λ c. search needs) (λ c κs. search needs) returns returns-2 returns-3)
+    (λ c. search needs) (λ c. search needs) sub-eigen-equation (λ c κs. search needs) returns returns-2 returns-3)

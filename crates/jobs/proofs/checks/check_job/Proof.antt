@@ -2,7 +2,7 @@
 -- on.
 use borrow.Author.Needs.{needs}
 use mathlib.Core.Path.{sym, _∙_}
-use Rattle.faults.proofs.Laws.{not-bad, bad-first, good-first, done-next, fine-line}
+use Rattle.faults.proofs.Laws.{not-bad, bad-first, good-first, done-first, done-next, fine-line}
 use Rattle.jobs.specs.Checks.{lineCheck, jobLineStatus, headLines, checkJob}
 use Rattle.jobs.proofs.CheckLaws.{unknowns-fine}
 use Rattle.jobs.proofs.checks.check_job.Statement.{statement}
@@ -19,7 +19,7 @@ unfolding headLines jobLineStatus lineCheck
 body-lines-requires c κs =
     let done =
     sym (c .before .before .head-lines .ensures) ∙ not-bad _ (sym (c .before .is-bad .ensures) ∙ c .if1 .left) in
-    unknowns-fine _ (fine-line _ _ (done-next _ _ (done-next _ _ done))) .1
+    unknowns-fine _ (fine-line _ _ (done-first _ _ (done-next _ _ (done-next _ _ done)))) .1
 
 returns-2 : tie.Need-returns-2
 unfolding checkJob

@@ -8,14 +8,17 @@ use Rattle.jobs.proofs.checks.head_lines.Tie as tie
 returns : tie.Need-returns
 unfolding headLines jobLineStatus lineCheck
 returns c =
-    let number = c .before .before .before in
+    let pin = c .before .before in
+    let unknowns = pin .before .before in
+    let number = unknowns .before .before in
     rw (fine-skips _ _)
     (rw (← line-same _ (number .before .number-check .ensures) (number .numbered .ensures))
-    (rw (← line-same _ (c .before .before .unknowns-check .ensures) (c .before .numbered2 .ensures))
-    (c .and-then .ensures)))
+    (rw (← line-same _ (unknowns .before .unknowns-check .ensures) (unknowns .numbered2 .ensures))
+    (rw (← line-same _ (pin .before .pin-check .ensures) (pin .numbered3 .ensures))
+    (rw (← c .before .and-then .ensures) (c .and-then2 .ensures)))))
 
 pub head-lines-spec : {M : Type 1} → statement M
 head-lines-spec =
     tie.close
     (tie.spec (λ c κs. search needs) (λ c κs. search needs) (λ c κs. search needs) (λ c κs. search needs)
-    (λ c κs. search needs) returns)
+    (λ c κs. search needs) (λ c κs. search needs) (λ c κs. search needs) (λ c κs. search needs) returns)

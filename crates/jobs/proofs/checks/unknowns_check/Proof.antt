@@ -6,7 +6,7 @@ use Rattle.jobs.proofs.checks.unknowns_check.Tie as tie
 
 returns : tie.Need-returns
 unfolding unknownsCheck
-returns c = rw (← c .before .good-unknowns .ensures) (c .bad-unless .ensures)
+returns c = rw (← c .before .one-to .ensures) (c .bad-unless .ensures)
 
 pub unknowns-check-spec : {M : Type 1} → statement M
 unknowns-check-spec = tie.close (tie.spec (λ c κs. search needs) (λ c κs. search needs) returns)

@@ -5,7 +5,7 @@ use Rattle.text.specs.Keys.{bodyOf}
 use Rattle.jobs.specs.Checks.{unknownsCheck}
 use Rattle.text.specs.Words.{nKey}
 use Rattle.lines.specs.Lines.{digitIs, unknownsOf}
-use Rattle.line_read.specs.At.{unknownsAt}
+use Rattle.line_read.specs.At.{smallAt}
 use Rattle.line_read.proofs.Checked.{checked-line, digit-spells}
 use borrow.Author.Needs.{needs}
 use Rattle.line_read.proofs.counts.unknowns_line.Statement.{statement}
@@ -14,7 +14,7 @@ use Rattle.line_read.proofs.counts.unknowns_line.Tie as tie
 returns : tie.Need-returns
 unfolding unknownsOf
 returns c =
-    checked-line unknownsAt (λ f b e. refl) (λ l. digitIs (bodyOf nKey l)) unknownsCheck _ _
+    checked-line smallAt (λ f b e. refl) (λ l. digitIs (bodyOf nKey l)) unknownsCheck _ _
     (digit-spells nKey _ _ (c .before .before .before .before .digit-at .ensures))
     (c .before .first-of .ensures
     ∙ ap₂ firstOf (c .before .before .before .bad-unless .ensures) (c .before .before .unknowns-check .ensures))

@@ -23,35 +23,50 @@ returns-3 c =
 returns-4 : tie.Need-returns-4
 returns-4 c =
     rw (c .before .before .before .before .before .form .given .1)
-    (says-most _ (omega arith) (c .before .before .put-numbers .ensures))
+    (says-most _ (omega arith) (c .before .before .put-pin .ensures))
 
 returns-5 : tie.Need-returns-5
 returns-5 c =
     rw (c .before .before .before .before .before .form2 .given .1)
-    (says-most _ (omega arith) (c .before .before .put-sided .ensures))
+    (says-most _ (omega arith) (c .before .before .put-pin-or-lo .ensures))
 
 returns-6 : tie.Need-returns-6
 returns-6 c =
     rw (c .before .before .before .before .before .form3 .given .1)
-    (says-most _ (omega arith) (c .before .before .put-terms-form .ensures))
+    (says-most _ (omega arith) (c .before .before .put-numbers .ensures))
 
 returns-7 : tie.Need-returns-7
 returns-7 c =
-    rw (c .before .before .before .before .before .enum-told4 .given .1)
-    (says-most _ (omega arith) (says-words (c .before .before .put-bytes4 .ensures)))
+    rw (c .before .before .before .before .before .form4 .given .1)
+    (says-most _ (omega arith) (c .before .before .put-numbers2 .ensures))
 
 returns-8 : tie.Need-returns-8
 returns-8 c =
-    rw (c .before .before .before .before .before .enum-told5 .given .1)
-    (says-most _ (omega arith) (says-words (c .before .before .put-bytes5 .ensures)))
+    rw (c .before .before .before .before .before .form5 .given .1)
+    (says-most _ (omega arith) (c .before .before .put-sided .ensures))
 
 returns-9 : tie.Need-returns-9
 returns-9 c =
-    rw (c .before .before .before .before .before .enum-told6 .given .1)
-    (says-most _ (omega arith) (says-words (c .before .before .put-bytes6 .ensures)))
+    rw (c .before .before .before .before .before .form6 .given .1)
+    (says-most _ (omega arith) (c .before .before .put-terms-form .ensures))
 
 returns-10 : tie.Need-returns-10
 returns-10 c =
+    rw (c .before .before .before .before .before .enum-told4 .given .1)
+    (says-most _ (omega arith) (says-words (c .before .before .put-bytes4 .ensures)))
+
+returns-11 : tie.Need-returns-11
+returns-11 c =
+    rw (c .before .before .before .before .before .enum-told5 .given .1)
+    (says-most _ (omega arith) (says-words (c .before .before .put-bytes5 .ensures)))
+
+returns-12 : tie.Need-returns-12
+returns-12 c =
+    rw (c .before .before .before .before .before .enum-told6 .given .1)
+    (says-most _ (omega arith) (says-words (c .before .before .put-bytes6 .ensures)))
+
+returns-13 : tie.Need-returns-13
+returns-13 c =
     rw (c .before .before .before .before .before .enum-told7 .given .1)
     (says-most _ (omega arith) (says-words (c .before .before .put-bytes7 .ensures)))
 
@@ -61,9 +76,11 @@ put-form-spec =
     (tie.spec (λ c. search needs) (λ c. search needs) (λ c κs. search needs) (λ c. search needs) (λ c. search needs)
     (λ c κs. search needs) (λ c. search needs) (λ c. search needs) (λ c κs. search needs) (λ c. search needs)
     (λ c κs. search needs) (λ c. search needs) (λ c κs. search needs) (λ c. search needs) (λ c κs. search needs)
-    (λ c. search needs) (λ c. search needs) (λ c κs. search needs) (λ c. search needs) (λ c. search needs)
+    (λ c. search needs) (λ c κs. search needs) (λ c. search needs) (λ c κs. search needs) (λ c. search needs)
     (λ c κs. search needs) (λ c. search needs) (λ c. search needs) (λ c κs. search needs) (λ c. search needs)
-    (λ c. search needs) (λ c κs. search needs) (λ c. search needs) returns (λ c. search needs) returns-2
-    (λ c. search needs) returns-3 (λ c. search needs) returns-4 (λ c. search needs) returns-5 (λ c. search needs)
-    returns-6 (λ c. search needs) returns-7 (λ c. search needs) returns-8 (λ c. search needs) returns-9
-    (λ c. search needs) returns-10)
+    (λ c. search needs) (λ c κs. search needs) (λ c. search needs) (λ c. search needs) (λ c κs. search needs)
+    (λ c. search needs) (λ c. search needs) (λ c κs. search needs) (λ c. search needs) returns (λ c. search needs)
+    returns-2 (λ c. search needs) returns-3 (λ c. search needs) returns-4 (λ c. search needs) returns-5
+    (λ c. search needs) returns-6 (λ c. search needs) returns-7 (λ c. search needs) returns-8 (λ c. search needs)
+    returns-9 (λ c. search needs) returns-10 (λ c. search needs) returns-11 (λ c. search needs) returns-12
+    (λ c. search needs) returns-13)

@@ -30,10 +30,17 @@ returns-4 c =
     rw (c .before .before .before .before .before .enum-told4 .given .1)
     (says-most _ (omega arith) (c .before .before .put-line4 .ensures))
 
+returns-5 : tie.Need-returns-5
+unfolding lineSlipWords
+returns-5 c =
+    rw (c .before .before .before .before .before .enum-told5 .given .1)
+    (says-most _ (omega arith) (c .before .before .put-line5 .ensures))
+
 pub put-line-slip-spec : {M : Type 1} → statement M
 put-line-slip-spec =
     tie.close
     (tie.spec (λ c. search needs) (λ c. search needs) (λ c κs. search needs) (λ c. search needs) (λ c. search needs)
     (λ c κs. search needs) (λ c. search needs) (λ c. search needs) (λ c κs. search needs) (λ c. search needs)
-    (λ c. search needs) (λ c κs. search needs) (λ c. search needs) returns (λ c. search needs) returns-2
-    (λ c. search needs) returns-3 (λ c. search needs) returns-4)
+    (λ c. search needs) (λ c κs. search needs) (λ c. search needs) (λ c. search needs) (λ c κs. search needs)
+    (λ c. search needs) returns (λ c. search needs) returns-2 (λ c. search needs) returns-3 (λ c. search needs)
+    returns-4 (λ c. search needs) returns-5)
