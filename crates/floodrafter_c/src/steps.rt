@@ -1,7 +1,8 @@
 // The step in two operations, for C: a box is a struct of its ends, and so is an answer.
 ghost use mathlib.Core.Path.{_≡_};
 ghost use Rattle.one_step.specs.OneStep.{givesImage, givesMove};
-ghost use Rattle.floodrafter_c.specs.Steps.{endsIn, sidesOf, shownBy, moveNumber, movedBy, shownStart, shownImage};
+ghost use Rattle.floodrafter_c.specs.Steps.{endsIn, sidesOf, shownBy, moveNumber, movedBy};
+ghost use Rattle.floodrafter_c.specs.Steps.{shownStart, shownImage};
 use faults::Status;
 use faults::fault_number;
 use jobs::Ends;

@@ -63,8 +63,8 @@ pub struct Job {
     pub system: Body,
 }
 
-// The kinds of lines of a job text, in their order; Pin is the line after n of an eigenpair's, its pin or, where none is
-// written, its lo; a line of the system with its place, from 0; End where no line is left.
+// The kinds of lines of a job text, in their order; Pin is the line after n of an eigenpair's, its pin or, where none
+// is written, its lo; a line of the system with its place, from 0; End where no line is left.
 pub enum JobLine {
     Number,
     Kind,

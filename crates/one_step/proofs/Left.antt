@@ -48,7 +48,8 @@ module _ (n : ℕ) (x k : Ends) (fine : decideCheck n x k ≡ Finding.Fine) wher
       by (unique e s) i l = rw e (image-is i l)
       by (stalled e s) i l = rw e (wider i l)
       by (next e m) i l =
-          in-more (lit≤ tt) (next-in X K box-is (λ i l. image-is i l .order) (ap (λ (d : Decision). d .what) e) .each i l)
+          in-more (lit≤ tt)
+          (next-in X K box-is (λ i l. image-is i l .order) (ap (λ (d : Decision). d .what) e) .each i l)
 
   pub moved-in : (i : ℕ) → i < n → InI imageMax (sideOf (movesTo n x k .ends) i)
   unfolding movesTo

@@ -1,5 +1,5 @@
-// The step in two operations, for whoever wants to see the image before it is used: K of a job and a box, and what X and
-// K decide. Every value is taken: what is handed in is checked first.
+// The step in two operations, for whoever wants to see the image before it is used: K of a job and a box, and what X
+// and K decide. Every value is taken: what is handed in is checked first.
 use faults::Fault;
 use faults::Finding;
 use faults::Status;

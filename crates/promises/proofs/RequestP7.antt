@@ -67,7 +67,8 @@ module _ (j : Job) (checked : checkJob j ≡ Status.Done) where
     run-short = results.from-short j checked X (two.box-right j checked x right)
 
   -- and so does the public entry, from the job's own box with its own allowance
-  pub entry-through : runJob j ≡ record { status = Status.Done; result = resultOf j (runByTwo j (j .steps) 0 (j .ends)) }
+  pub entry-through : runJob j
+      ≡ record { status = Status.Done; result = resultOf j (runByTwo j (j .steps) 0 (j .ends)) }
   entry-through = two.entry-given j checked
 
 -- "A box handed in is checked like a job's lo and hi,": by the very checks of these lines

@@ -1,5 +1,5 @@
--- Document 02, P7: "The run and every other caller go through the two." The run of a job from a box of values on, by the
--- two public operations alone.
+-- Document 02, P7: "The run and every other caller go through the two." The run of a job from a box of values on, by
+-- the two public operations alone.
 use Prim.Native.Nat.{ℕ, zero, suc, _+_}
 use Rattle.jobs.specs.declared.Ends.{Ends}
 use Rattle.jobs.specs.declared.Job.{Job}

@@ -26,7 +26,8 @@ image-box-requires c κs =
     let s = eqs .before .before in
     rw (c .box-of .ensures)
     (step-in (s .args .j) (job-checked (s .args .j) (s .args .e) (s .pre)) (eqs .equations .ensures)
-    (c .before .matrix .ensures) (boxOf (s .args .j .head .n) (s .args .e)) (box-checked (s .args .j) (s .args .e) (s .pre)))
+    (c .before .matrix .ensures) (boxOf (s .args .j .head .n) (s .args .e))
+    (box-checked (s .args .j) (s .args .e) (s .pre)))
 
 ends-of-requires : tie.Need-ends-of-requires
 ends-of-requires c κs =

@@ -9,7 +9,8 @@ returns : tie.Need-returns
 unfolding movesTo
 returns c =
     let boxes = c .before .before .before in
-    let decided = rw (boxes .before .box-of .ensures, boxes .box-of2 .ensures) at (c .before .before .decide .ensures) in
+    let decided =
+    rw (boxes .before .box-of .ensures, boxes .box-of2 .ensures) at (c .before .before .decide .ensures) in
     rw (c .ends-of .ensures) (ap (moveTo (boxes .before .before .args .n)) decided)
 
 pub moved-spec : {M : Type 1} → statement M

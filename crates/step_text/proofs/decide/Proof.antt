@@ -14,7 +14,8 @@ move-lines-requires : tie.Need-move-lines-requires
 move-lines-requires c κs =
     let decide = c .before .before .before in
     let args = decide .before .before .args in
-    let told = ap (λ (d : Decided). d .status) (decide .decide .ensures) ∙ decide-status (args .n) (args .x) (args .k) in
+    let told =
+    ap (λ (d : Decided). d .status) (decide .decide .ensures) ∙ decide-status (args .n) (args .x) (args .k) in
     let fine = fine-line _ 0 (sym told ∙ c .before .enum-told .given .1) in
     rw (decide .decide .ensures) (move-fits (args .n) (args .x) (args .k) fine)
 
@@ -22,7 +23,8 @@ returns : tie.Need-returns
 returns c =
     let decide = c .before .before .before in
     let args = decide .before .before .args in
-    let told = ap (λ (d : Decided). d .status) (decide .decide .ensures) ∙ decide-status (args .n) (args .x) (args .k) in
+    let told =
+    ap (λ (d : Decided). d .status) (decide .decide .ensures) ∙ decide-status (args .n) (args .x) (args .k) in
     rw (sym told ∙ c .before .status .given .1)
     (values-bad (decideText (args .n) (args .x) (args .k)) (args .out .now) _ _)
 
@@ -32,7 +34,8 @@ returns-2 c =
     let match = c .before .before .before .before in
     let decide = match .before .before in
     let args = decide .before .before .args in
-    let told = ap (λ (d : Decided). d .status) (decide .decide .ensures) ∙ decide-status (args .n) (args .x) (args .k) in
+    let told =
+    ap (λ (d : Decided). d .status) (decide .decide .ensures) ∙ decide-status (args .n) (args .x) (args .k) in
     rw (sym told ∙ match .enum-told .given .1, ← decide .decide .ensures) (c .before .before .move-lines .ensures)
 
 pub decide-spec : {M : Type 1} → statement M

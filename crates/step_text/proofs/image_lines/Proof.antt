@@ -8,14 +8,16 @@ hand-over-requires : tie.Need-hand-over-requires
 hand-over-requires c κs =
     let put = c .before .before .before in
     let start = put .before .before .before in
-    let lines = image-stands (start .args .n) (start .pre .few) (search needs) (start .args .k) (put .put-image .ensures) in
+    let lines =
+    image-stands (start .args .n) (start .pre .few) (search needs) (start .args .k) (put .put-image .ensures) in
     (search needs, lines .short)
 
 returns : tie.Need-returns
 returns c =
     let put = c .before .before .before .before .before .before in
     let start = put .before .before .before in
-    let lines = image-stands (start .args .n) (start .pre .few) (search needs) (start .args .k) (put .put-image .ensures) in
+    let lines =
+    image-stands (start .args .n) (start .pre .few) (search needs) (start .args .k) (put .put-image .ensures) in
     rw (lines .text) at (c .before .before .hand-over .ensures)
 
 pub image-lines-spec : {M : Type 1} → statement M

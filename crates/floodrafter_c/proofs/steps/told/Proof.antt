@@ -12,7 +12,12 @@ returns-2 : tie.Need-returns-2
 returns-2 c =
     let status = c .before .before in
     let sides = status .before .before in
-    rw (status .status .given .1, c .fault-number .ensures, sides .before .move-number .ensures, sides .sides-of .ensures)
+    rw (
+      status .status .given .1,
+      c .fault-number .ensures,
+      sides .before .move-number .ensures,
+      sides .sides-of .ensures,
+    )
 
 pub told-spec : {M : Type 1} → statement M
 told-spec =

@@ -45,7 +45,8 @@ returns : tie.Need-returns Inv-loop μ-loop
 returns c =
     let l = c .before .loop in
     let end = c .loop-test .left in
-    ap₂ ends (tab-done (pos 0) nMax _ (l .inv .0) end (l .inv .1 .0)) (tab-done (pos 0) nMax _ (l .inv .0) end (l .inv .1 .1))
+    ap₂ ends (tab-done (pos 0) nMax _ (l .inv .0) end (l .inv .1 .0))
+    (tab-done (pos 0) nMax _ (l .inv .0) end (l .inv .1 .1))
 
 pub ends-of-spec : {M : Type 1} → statement M
 ends-of-spec =
