@@ -3,8 +3,8 @@ use Prim.Native.Nat.{ℕ}
 use mathlib.Core.Path.{_≡_, sym, ap, _∙_}
 use mathlib.Core.List.{List}
 use Rattle.faults.specs.declared.Status.{Status}
-use Rattle.jobs.specs.Checks.{checkJob}
-use Rattle.jobs.specs.CheckResult.{checkResult}
+use Rattle.checks.specs.Checks.{checkJob}
+use Rattle.checks.specs.CheckResult.{checkResult}
 use Rattle.job_form.specs.JobForm.{readJob}
 use Rattle.job_form.specs.declared.JobRead.{JobRead}
 use Rattle.job_form.proofs.Trips as job

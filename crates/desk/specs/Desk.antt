@@ -3,8 +3,8 @@
 use Prim.Native.Nat.{ℕ}
 use mathlib.Core.List.{List}
 use Rattle.faults.specs.Checks.{andThen}
-use Rattle.jobs.specs.Checks.{checkJob}
-use Rattle.jobs.specs.CheckResult.{checkResult}
+use Rattle.checks.specs.Checks.{checkJob}
+use Rattle.checks.specs.CheckResult.{checkResult}
 use Rattle.result_form.specs.ResultForm.{readResult}
 use Rattle.result_form.specs.ResultShows.{showResult}
 use Rattle.job_form.specs.JobForm.{readJob}

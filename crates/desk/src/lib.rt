@@ -2,7 +2,7 @@
 ghost use mathlib.Core.Path.{_≡_};
 ghost use Rattle.faults.specs.declared.Status.{Status};
 ghost use Rattle.faults.specs.Answer.{Leaves};
-ghost use Rattle.jobs.specs.Checks.{checkJob};
+ghost use Rattle.checks.specs.Checks.{checkJob};
 ghost use Rattle.desk.specs.Desk.{jobStatus, jobText, resultStatus, resultText};
 ghost use Rattle.desk.specs.Desk.{runStatus, runText, solveStatus, solveText};
 use faults::Status;

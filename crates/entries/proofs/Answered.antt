@@ -11,7 +11,7 @@ use Rattle.faults.specs.Checks.{andThen}
 use Rattle.faults.specs.Answer.{answerOf}
 use Rattle.faults.specs.declared.Status.{Status}
 use Rattle.faults.proofs.Laws.{both-done}
-use Rattle.jobs.proofs.CheckResultLaws.{sound}
+use Rattle.checks.proofs.CheckResultLaws.{sound}
 use Rattle.job_form.specs.JobForm.{readJob}
 use Rattle.job_form.proofs.Trips as job-trips
 use Rattle.job_form.proofs.Answers as job

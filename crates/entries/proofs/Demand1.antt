@@ -7,8 +7,8 @@ use mathlib.Core.Logic.{_↔_}
 use Prim.Native.Nat.{ℕ, _≤_, _<_}
 use lib.ListN.{length, drop}
 use Rattle.sizes.specs.Sizes.{textMax}
-use Rattle.jobs.specs.Checks.{checkJob}
-use Rattle.jobs.specs.CheckResult.{checkResult}
+use Rattle.checks.specs.Checks.{checkJob}
+use Rattle.checks.specs.CheckResult.{checkResult}
 use Rattle.jobs.specs.declared.Ends.{Ends}
 use Rattle.jobs.specs.declared.Job.{Job}
 use Rattle.jobs.specs.declared.Result.{Result}
@@ -25,7 +25,7 @@ use Rattle.entries.specs.Numbers.{told, tell, orElse, shortBuffer, first
 use Rattle.entries.specs.Numbers.{imageRows, decideRows}
 use Rattle.entries.proofs.Answered.{job-status, result-status, solve-status}
 use Rattle.slips.specs.Slips.{foundIn}
-use Rattle.sentences.specs.Says.{sentenceMax}
+use Rattle.phrases.specs.Says.{sentenceMax}
 use Rattle.sentences.specs.Sentences.{slipWords, Explains}
 use Rattle.entries.proofs.Explained as explained
 use Rattle.entries.proofs.Faults as faults

@@ -10,7 +10,7 @@ use Rattle.faults.specs.declared.Finding.{Finding}
 use Rattle.faults.specs.declared.Status.{Status}
 use Rattle.faults.specs.Words.{faultNumber}
 use Rattle.slips.specs.Slips.{foundIn}
-use Rattle.sentences.specs.Says.{sentenceMax}
+use Rattle.phrases.specs.Says.{sentenceMax}
 use Rattle.sentences.specs.Sentences.{slipWords, Explains}
 use Rattle.sentences.proofs.Told.{slip-some, slip-none}
 use Rattle.entries.specs.Numbers.{told}

@@ -9,8 +9,8 @@ use lib.Dec.{eqb, ltb}
 use lib.ListN.{length}
 use borrow.Author.Tests.{lt-ltb, ltb-true, ne-eqb, eqb-false}
 use Rattle.faults.specs.Words.{faultNumber, numberOf}
-use Rattle.jobs.specs.Checks.{checkJob}
-use Rattle.jobs.specs.CheckResult.{checkResult}
+use Rattle.checks.specs.Checks.{checkJob}
+use Rattle.checks.specs.CheckResult.{checkResult}
 use Rattle.faults.specs.declared.Fault.{Fault}
 use Rattle.jobs.specs.declared.Kind.{Kind}
 use Rattle.jobs.specs.declared.Job.{Job}

@@ -12,10 +12,10 @@ use Rattle.faults.specs.Words.{faultNumber}
 use Rattle.faults.specs.Checks.{badUnless, onLine, andThen, linesOf}
 use Rattle.faults.proofs.Laws.{line-first, fine-skips, then-assoc}
 use Rattle.jobs.specs.Lines.{pinLines, systemNumber}
-use Rattle.jobs.specs.Checks.{numberCheck, unknownsCheck, pinCheck, lowCheck, highCheck, inverseCheck, stepsCheck}
-use Rattle.jobs.specs.Checks.{equationCheck, rowCheck, sidedCheck, systemCheck, lineCheck}
-use Rattle.jobs.specs.Checks.{jobLineStatus, systemLines, headLines, bodyLines, checkJob}
-use Rattle.jobs.specs.CheckResult.{countCheck, countedCheck, resultCheck, resultLineStatus, checkResult}
+use Rattle.checks.specs.Checks.{numberCheck, unknownsCheck, pinCheck, lowCheck, highCheck, inverseCheck, stepsCheck}
+use Rattle.checks.specs.Checks.{equationCheck, rowCheck, sidedCheck, systemCheck, lineCheck}
+use Rattle.checks.specs.Checks.{jobLineStatus, systemLines, headLines, bodyLines, checkJob}
+use Rattle.checks.specs.CheckResult.{countCheck, countedCheck, resultCheck, resultLineStatus, checkResult}
 use Rattle.faults.specs.declared.Fault.{Fault}
 use Rattle.one_step.specs.OneStep.{endsCheck, imageStatus, decideCheck, decideStatus}
 use Rattle.jobs.specs.declared.Kind.{Kind}

@@ -7,13 +7,13 @@ use Rattle.lists.specs.Loops.{tab, carry, allB}
 use Rattle.intervals.specs.Interval.{addI, negI, sumI, scaleI, wideI, outI, mulI, midI, meetsI, insideI, cutI, sameI}
 use Rattle.powers.specs.Powers.{holdsZero, squareRange, squareI, cubeI, powerI}
 use Rattle.matrices.specs.Products.{dotI, dOf, unitZ, entryB, bOf, eOf}
-use Rattle.jobs.specs.Ranges.{oneTo, isWithin, allWithin, allOrdered}
-use Rattle.jobs.specs.Terms.{alike, falls, inOrder, goodTerm, goodPlace, goodTerms, goodCoefs, degree}
+use Rattle.checks.specs.Ranges.{oneTo, isWithin, allWithin, allOrdered}
+use Rattle.checks.specs.Terms.{alike, falls, inOrder, goodTerm, goodPlace, goodTerms, goodCoefs, degree}
 use Rattle.faults.specs.Checks.{badUnless, firstOf, onLine, andThen, linesOf}
-use Rattle.jobs.specs.Checks.{goodMatrix, numberCheck, unknownsCheck, pinCheck}
-use Rattle.jobs.specs.Checks.{lowCheck, highCheck, inverseCheck, stepsCheck}
-use Rattle.jobs.specs.Checks.{equationCheck, rowCheck, sidedCheck, systemCheck, lineCheck}
-use Rattle.jobs.specs.Checks.{jobLineStatus, systemLines, headLines, bodyLines, checkJob}
+use Rattle.checks.specs.Checks.{goodMatrix, numberCheck, unknownsCheck, pinCheck}
+use Rattle.checks.specs.Checks.{lowCheck, highCheck, inverseCheck, stepsCheck}
+use Rattle.checks.specs.Checks.{equationCheck, rowCheck, sidedCheck, systemCheck, lineCheck}
+use Rattle.checks.specs.Checks.{jobLineStatus, systemLines, headLines, bodyLines, checkJob}
 use Rattle.systems.specs.Terms.{factorI, termOver, equationOver, lowered, termSlope, slopeOver}
 use Rattle.systems.specs.Fractions.{power, termNum, equationNum}
 use Rattle.systems.specs.Kinds.{unitE, vectorE, linearEquation, eigenEquation, equationOf}

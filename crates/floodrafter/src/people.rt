@@ -1,6 +1,6 @@
 // For people: one text's answer, and a plain sentence beside a fault.
 ghost use Prim.Native.Nat.{_≤_};
-ghost use Rattle.sentences.specs.Says.{sentenceMax};
+ghost use Rattle.phrases.specs.Says.{sentenceMax};
 use crate::outcomes::Outcome;
 use crate::streams::fill;
 use crate::streams::put;

@@ -7,7 +7,7 @@ use lib.ListN.{length}
 use Rattle.sizes.specs.Sizes.{textMax}
 use Rattle.faults.specs.declared.Fault.{Fault}
 use Rattle.faults.specs.declared.Status.{Status}
-use Rattle.jobs.specs.Checks.{checkJob}
+use Rattle.checks.specs.Checks.{checkJob}
 use Rattle.jobs.specs.Zero.{noJob}
 use Rattle.jobs.specs.declared.Job.{Job}
 use Rattle.reading.specs.Lines.{Answer, read}

@@ -9,10 +9,10 @@ use Rattle.text.specs.Words.{jobKey, nKey, pinKey, loKey, hiKey, invKey, stepsK
 use Rattle.text.proofs.Pieces.{Above}
 use Rattle.jobs.specs.Places.{rowAt, equationAt}
 use Rattle.jobs.specs.Parts.{withSteps, withSystem}
-use Rattle.jobs.specs.Checks.{numberCheck, unknownsCheck, lowCheck, highCheck, inverseCheck, stepsCheck}
-use Rattle.jobs.specs.Checks.{systemCheck, lineCheck}
+use Rattle.checks.specs.Checks.{numberCheck, unknownsCheck, lowCheck, highCheck, inverseCheck, stepsCheck}
+use Rattle.checks.specs.Checks.{systemCheck, lineCheck}
 use Rattle.jobs.specs.Lines.{afterN}
-use Rattle.jobs.proofs.CheckLaws.{unknowns-fine}
+use Rattle.checks.proofs.CheckLaws.{unknowns-fine}
 use Rattle.jobs.specs.declared.Kind.{Kind}
 use Rattle.jobs.specs.declared.Body.{Body}
 use Rattle.jobs.specs.declared.Job.{Job}

@@ -19,8 +19,8 @@ use Rattle.jobs.specs.declared.Job.{Job}
 use Rattle.jobs.specs.declared.JobLine.{JobLine}
 use Rattle.jobs.specs.Lines.{afterN}
 use Rattle.jobs.specs.Parts.{withPin, withLo, lastPin}
-use Rattle.jobs.specs.Checks.{pinCheck, lowCheck, lineCheck}
-use Rattle.jobs.proofs.RangeLaws.{to-one}
+use Rattle.checks.specs.Checks.{pinCheck, lowCheck, lineCheck}
+use Rattle.checks.proofs.RangeLaws.{to-one}
 use Rattle.reading.specs.Got.{Got, after}
 use Rattle.reading.specs.Lines.{Next}
 use Rattle.reading.specs.NumberLines.{placed}

@@ -16,8 +16,8 @@ use Rattle.jobs.specs.declared.Job.{Job}
 use Rattle.jobs.specs.declared.JobLine.{JobLine}
 use Rattle.jobs.specs.Lines.{afterN}
 use Rattle.jobs.specs.Parts.{withUnknowns, withPin, withLo, lastPin}
-use Rattle.jobs.specs.Checks.{unknownsCheck, lowCheck, lineCheck}
-use Rattle.jobs.proofs.CheckLaws.{unknowns-fine}
+use Rattle.checks.specs.Checks.{unknownsCheck, lowCheck, lineCheck}
+use Rattle.checks.proofs.CheckLaws.{unknowns-fine}
 use Rattle.reading.specs.Got.{after, Told}
 use Rattle.reading.specs.NumberLines.{placed}
 use Rattle.reading.specs.Shows.{linesOf, Passed, Kept}

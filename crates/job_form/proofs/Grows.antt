@@ -7,7 +7,7 @@ use mathlib.Core.Bool.{false}
 use Rattle.sizes.specs.Sizes.{nMax}
 use Rattle.faults.specs.declared.Fault.{Fault}
 use Rattle.jobs.specs.Parts.{withNumber, withKind, withHi, withInverse, withSteps, withSystem}
-use Rattle.jobs.specs.Checks.{systemCheck, lineCheck}
+use Rattle.checks.specs.Checks.{systemCheck, lineCheck}
 use Rattle.jobs.specs.declared.Body.{Body}
 use Rattle.jobs.specs.declared.Job.{Job}
 use Rattle.jobs.specs.declared.JobLine.{JobLine}

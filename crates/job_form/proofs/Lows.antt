@@ -15,7 +15,7 @@ use Rattle.jobs.specs.declared.Head.{Head}
 use Rattle.jobs.specs.declared.Job.{Job}
 use Rattle.jobs.specs.declared.JobLine.{JobLine}
 use Rattle.jobs.specs.Lines.{pinStands, afterN}
-use Rattle.jobs.specs.Checks.{numberCheck, unknownsCheck, pinCheck, lowCheck, inverseCheck, stepsCheck, lineCheck}
+use Rattle.checks.specs.Checks.{numberCheck, unknownsCheck, pinCheck, lowCheck, inverseCheck, stepsCheck, lineCheck}
 use Rattle.reading.specs.Got.{Got}
 use Rattle.reading.specs.Shows.{linesOf, Passed}
 use Rattle.reading.proofs.Walk.{passed-join, passed-front, passed-rest}

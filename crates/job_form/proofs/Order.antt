@@ -10,7 +10,7 @@ use lib.ListN.{length, length-append}
 use borrow.Author.Tests.{le-ltb, lt-ltb}
 use Rattle.digits.proofs.Cases.{either}
 use Rattle.jobs.specs.Lines.{pinLines, afterN, jobNumber}
-use Rattle.jobs.specs.Checks.{systemCheck, lineCheck}
+use Rattle.checks.specs.Checks.{systemCheck, lineCheck}
 use Rattle.jobs.specs.declared.Kind.{Kind}
 use Rattle.jobs.specs.declared.Job.{Job}
 use Rattle.jobs.specs.declared.JobLine.{JobLine}

@@ -23,7 +23,7 @@ use Rattle.reading.proofs.Walk.{passed-front, passed-rest}
 use Rattle.term_write.specs.ShowTerms.{termWidth}
 use Rattle.term_write.proofs.Terms.{equation-short}
 use Rattle.lines.specs.Texts.{countText, kindText, matrixList}
-use Rattle.jobs.proofs.CheckLaws.{unknowns-fine}
+use Rattle.checks.proofs.CheckLaws.{unknowns-fine}
 use Rattle.lines.proofs.Found.{found-fine}
 use Rattle.lines.proofs.Rows.{square-fits, matrix-long}
 use Rattle.job_form.specs.JobBytes.{systemText, SpelledLine, lowText, jobLine, pinWritten, lowKinds, highKinds}

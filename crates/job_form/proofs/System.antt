@@ -15,7 +15,7 @@ use Rattle.faults.specs.declared.Finding.{Finding}
 use Rattle.jobs.specs.Places.{noEquation, rowAt, equationAt}
 use Rattle.jobs.specs.Zero.{zeroEquation, zeroRow, zeroBody}
 use Rattle.jobs.specs.Parts.{withSystem}
-use Rattle.jobs.specs.Checks.{equationCheck, rowCheck, sidedCheck, systemCheck}
+use Rattle.checks.specs.Checks.{equationCheck, rowCheck, sidedCheck, systemCheck}
 use Rattle.jobs.specs.declared.Kind.{Kind}
 use Rattle.jobs.specs.declared.Row.{Row}
 use Rattle.jobs.specs.declared.Equation.{Equation}

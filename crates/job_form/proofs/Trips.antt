@@ -13,7 +13,7 @@ use Rattle.faults.specs.Checks.{firstOf, andThen}
 use Rattle.faults.specs.Checks as checks
 use Rattle.faults.specs.declared.Finding.{Finding}
 use Rattle.faults.proofs.Laws.{then-assoc, fine-skips, line-first}
-use Rattle.jobs.specs.Checks.{lineCheck, jobLineStatus, headLines, systemLines, bodyLines, checkJob}
+use Rattle.checks.specs.Checks.{lineCheck, jobLineStatus, headLines, systemLines, bodyLines, checkJob}
 use Rattle.jobs.specs.declared.Kind.{Kind}
 use Rattle.jobs.specs.declared.Head.{Head}
 use Rattle.jobs.specs.declared.Job.{Job}

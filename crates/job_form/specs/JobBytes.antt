@@ -19,7 +19,7 @@ use Rattle.term_write.specs.ShowTerms.{equationText}
 use Rattle.term_round.specs.Spelled.{SpelledEquation}
 use Rattle.jobs.specs.Places.{rowAt, equationAt}
 use Rattle.jobs.specs.Lines.{pinStands, afterN}
-use Rattle.jobs.specs.Checks.{lineCheck}
+use Rattle.checks.specs.Checks.{lineCheck}
 use Rattle.jobs.specs.declared.Kind.{Kind}
 use Rattle.jobs.specs.declared.Job.{Job}
 use Rattle.jobs.specs.declared.JobLine.{JobLine}

@@ -11,7 +11,7 @@ use Rattle.jobs.specs.declared.Job.{Job}
 use Rattle.jobs.specs.declared.JobLine.{JobLine}
 use Rattle.jobs.specs.Lines.{afterN, jobNumber}
 use Rattle.jobs.specs.Parts.{withNumber, withKind, withUnknowns, withLo, withHi, withInverse, withSteps}
-use Rattle.jobs.proofs.CheckLaws.{unknowns-fine}
+use Rattle.checks.proofs.CheckLaws.{unknowns-fine}
 use Rattle.reading.specs.Got.{Got, after}
 use Rattle.reading.specs.Lines.{Next}
 use Rattle.faults.specs.declared.Fault.{Fault}

@@ -9,9 +9,9 @@ use Rattle.sizes.specs.Sizes.{textMax}
 use Rattle.digits.proofs.Cases.{either}
 use Rattle.text.specs.Cut.{endEach}
 use Rattle.faults.specs.declared.Status.{Status}
-use Rattle.jobs.specs.Checks.{checkJob}
+use Rattle.checks.specs.Checks.{checkJob}
 use Rattle.jobs.specs.Lines.{afterN}
-use Rattle.jobs.specs.Accepted.{GoodSystem}
+use Rattle.checks.specs.Accepted.{GoodSystem}
 use Rattle.jobs.specs.declared.Kind.{Kind}
 use Rattle.jobs.specs.declared.Job.{Job}
 use Rattle.jobs.specs.declared.JobLine.{JobLine}

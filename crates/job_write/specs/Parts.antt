@@ -7,7 +7,7 @@ use lib.IntN.{ℤ}
 use Rattle.sizes.specs.Sizes.{nMax, entryMax, textMax}
 use Rattle.integers.specs.Ranges.{Within}
 use Rattle.jobs.specs.Places.{rowAt}
-use Rattle.jobs.specs.Accepted.{AllWithin, Accepted}
+use Rattle.checks.specs.Accepted.{AllWithin, Accepted}
 use Rattle.jobs.specs.declared.Row.{Row}
 use Rattle.jobs.specs.declared.Job.{Job}
 use Rattle.jobs.specs.declared.JobLine.{JobLine}

@@ -1,9 +1,4 @@
 pub mod Places
 pub mod Zero
 pub mod Parts
-pub mod Ranges
-pub mod Terms
 pub mod Lines
-pub mod Checks
-pub mod Accepted
-pub mod CheckResult

@@ -1,10 +1,6 @@
 // The values that the solver takes and gives: a job, a result. Places past n play no part on the way in and are zero on
 // the way out.
-pub mod check_result;
-pub mod checks;
 pub mod lines;
-pub mod ranges;
-pub mod terms;
 pub mod zero;
 
 use sizes::N;

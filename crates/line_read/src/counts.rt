@@ -1,12 +1,12 @@
 // The lines that hold one number.
 use crate::CountLine;
 use crate::SmallLine;
+use checks::job::unknowns_check;
+use checks::ranges::one_to;
 use faults::Fault;
 use faults::Finding;
 use faults::bad_unless;
 use faults::first_of;
-use jobs::checks::unknowns_check;
-use jobs::ranges::one_to;
 use scan::CountAt;
 use scan::lines::count_at;
 use scan::lines::key_at;

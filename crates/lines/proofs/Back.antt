@@ -17,8 +17,8 @@ use Rattle.text.specs.Words.{loKey, hiKey, invKey, rowKey, jobKey, stepsKey}
 use Rattle.faults.specs.declared.Fault.{Fault}
 use Rattle.faults.specs.declared.Finding.{Finding}
 use Rattle.faults.specs.Checks.{firstOf, badUnless}
-use Rattle.jobs.specs.Checks.{lowCheck, highCheck, inverseCheck, rowCheck, sidedCheck, numberCheck, stepsCheck}
-use Rattle.jobs.specs.CheckResult.{countedCheck}
+use Rattle.checks.specs.Checks.{lowCheck, highCheck, inverseCheck, rowCheck, sidedCheck, numberCheck, stepsCheck}
+use Rattle.checks.specs.CheckResult.{countedCheck}
 use Rattle.jobs.specs.declared.Row.{Row}
 use Rattle.reading.specs.Got.{Got, after, passing}
 use Rattle.reading.specs.NumberLines.{placed, rowLine, countLine}

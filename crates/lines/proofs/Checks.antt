@@ -11,20 +11,20 @@ use Rattle.sizes.specs.Sizes.{nMax, numberMax, stepsMax, endMax, entryMax}
 use lib.Signed.{leZ}
 use Rattle.lists.proofs.All.{all-cong}
 use Rattle.lists.proofs.Tab.{getD-tab}
-use Rattle.jobs.specs.Accepted.{AllWithin}
-use Rattle.jobs.specs.Ranges.{isWithin, allWithin, allOrdered}
+use Rattle.checks.specs.Accepted.{AllWithin}
+use Rattle.checks.specs.Ranges.{isWithin, allWithin, allOrdered}
 use Rattle.faults.specs.declared.Fault.{Fault}
 use Rattle.reading.specs.NumberLines.{placed}
 use Rattle.reading.proofs.NumberLines.{below-tab}
 use Rattle.digits.specs.Number.{digitsMax}
 use Rattle.text.specs.Lists.{Below, Small}
-use Rattle.jobs.proofs.RangeLaws.{is-within, all-within}
+use Rattle.checks.proofs.RangeLaws.{is-within, all-within}
 use Rattle.faults.specs.declared.Finding.{Finding}
 use Rattle.faults.specs.Checks.{badUnless, firstOf}
-use Rattle.jobs.specs.Checks.{numberCheck, stepsCheck, lowCheck, highCheck, rowCheck, sidedCheck}
-use Rattle.jobs.specs.CheckResult.{countCheck, countedCheck}
+use Rattle.checks.specs.Checks.{numberCheck, stepsCheck, lowCheck, highCheck, rowCheck, sidedCheck}
+use Rattle.checks.specs.CheckResult.{countCheck, countedCheck}
 use Rattle.faults.proofs.Laws.{fine-first, fine-next, unless-fine}
-use Rattle.jobs.proofs.CheckLaws.{count-fine}
+use Rattle.checks.proofs.CheckLaws.{count-fine}
 
 -- ---- how many numbers
 

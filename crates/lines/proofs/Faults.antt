@@ -14,8 +14,8 @@ use Rattle.text.specs.Keys.{bodyOf, sameBytes}
 use Rattle.text.specs.Lists.{placesMax}
 use Rattle.text.specs.Words.{jobKey, nKey, pinKey, loKey, hiKey, invKey, stepsKey, rowKey}
 use Rattle.term_text.specs.Terms.{oneDigit, readEquation}
-use Rattle.jobs.specs.Checks.{unknownsCheck, lowCheck, highCheck, inverseCheck, equationCheck, rowCheck, sidedCheck}
-use Rattle.jobs.specs.CheckResult.{countCheck, countedCheck}
+use Rattle.checks.specs.Checks.{unknownsCheck, lowCheck, highCheck, inverseCheck, equationCheck, rowCheck, sidedCheck}
+use Rattle.checks.specs.CheckResult.{countCheck, countedCheck}
 use Rattle.jobs.specs.declared.Kind.{Kind}
 use Rattle.jobs.specs.declared.Verdict.{Verdict}
 use Rattle.reading.specs.Got.{Got, Blamed}

@@ -18,11 +18,11 @@ use Rattle.faults.specs.Checks.{badUnless}
 use Rattle.faults.proofs.Laws.{unless-fine}
 use Rattle.jobs.specs.Places.{rowAt}
 use Rattle.jobs.specs.Zero.{zeroRow}
-use Rattle.jobs.specs.Accepted.{AllWithin}
-use Rattle.jobs.specs.Checks.{goodMatrix, inverseCheck}
-use Rattle.jobs.specs.Ranges.{allWithin}
+use Rattle.checks.specs.Accepted.{AllWithin}
+use Rattle.checks.specs.Checks.{goodMatrix, inverseCheck}
+use Rattle.checks.specs.Ranges.{allWithin}
 use Rattle.jobs.specs.declared.Row.{Row}
-use Rattle.jobs.proofs.RangeLaws.{all-within}
+use Rattle.checks.proofs.RangeLaws.{all-within}
 use Rattle.reading.specs.NumberLines.{placed}
 use Rattle.reading.proofs.NumberLines.{below-tab}
 use Rattle.lines.specs.Places.{cells, rowsOf, liveRows}

@@ -13,7 +13,7 @@ use Rattle.text.specs.Words.{loKey, hiKey, invKey, rowKey}
 use Rattle.term_write.proofs.Joined.{tab-next}
 use Rattle.faults.specs.declared.Fault.{Fault}
 use Rattle.faults.specs.declared.Finding.{Finding}
-use Rattle.jobs.specs.Checks.{lowCheck, highCheck, inverseCheck, rowCheck, sidedCheck}
+use Rattle.checks.specs.Checks.{lowCheck, highCheck, inverseCheck, rowCheck, sidedCheck}
 use Rattle.jobs.specs.declared.Row.{Row}
 use Rattle.reading.specs.Got.{Told, passing}
 use Rattle.reading.specs.NumberLines.{placed}

@@ -16,7 +16,7 @@ use Rattle.digits.proofs.Show.{show-low}
 use Rattle.text.specs.Words.{nKey}
 use Rattle.text.specs.Keys.{bodyOf}
 use Rattle.text.proofs.Keys.{both, body-own, body-was}
-use Rattle.jobs.specs.Checks.{unknownsCheck}
+use Rattle.checks.specs.Checks.{unknownsCheck}
 use Rattle.term_text.specs.Terms.{oneDigit}
 use Rattle.digits.specs.Digits.{isDigit, allDigits}
 use Rattle.term_round.proofs.WriteBack.{digit-is}

@@ -11,7 +11,7 @@ use Rattle.faults.specs.declared.Finding.{Finding}
 use Rattle.faults.specs.Checks.{badUnless}
 use Rattle.faults.proofs.Laws.{fine-unless}
 use Rattle.text.specs.Words.{jobKey, stepsKey}
-use Rattle.jobs.specs.Checks.{numberCheck, stepsCheck}
+use Rattle.checks.specs.Checks.{numberCheck, stepsCheck}
 use Rattle.jobs.specs.declared.Kind.{Kind}
 use Rattle.reading.specs.Got.{Got, Told}
 use Rattle.reading.specs.NumberLines.{countLine}

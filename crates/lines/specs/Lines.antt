@@ -1,6 +1,6 @@
 -- What each kind of line says, from its bytes without the line feed: its value, or its fault. Document 01, "The job
 -- text and the result text" and "Fault numbers": of each line first its spelling, then the check that its values get
--- (crate jobs, Checks): "in one line 2 comes before the others, then 3, then 4, then 5 or 6".
+-- (crate checks, Checks): "in one line 2 comes before the others, then 3, then 4, then 5 or 6".
 use Prim.Native.Nat.{ℕ, _+_, _-_, _*_}
 use mathlib.Core.List.{List, _++_}
 use mathlib.Core.Bool.{cond, not, _&&_}
@@ -19,9 +19,9 @@ use Rattle.jobs.specs.declared.Kind.{Kind}
 use Rattle.jobs.specs.declared.Row.{Row}
 use Rattle.jobs.specs.declared.Equation.{Equation}
 use Rattle.jobs.specs.declared.Verdict.{Verdict}
-use Rattle.jobs.specs.Checks.{unknownsCheck, goodPin, lowCheck, highCheck, inverseCheck}
-use Rattle.jobs.specs.Checks.{equationCheck, rowCheck, sidedCheck}
-use Rattle.jobs.specs.CheckResult.{countedCheck}
+use Rattle.checks.specs.Checks.{unknownsCheck, goodPin, lowCheck, highCheck, inverseCheck}
+use Rattle.checks.specs.Checks.{equationCheck, rowCheck, sidedCheck}
+use Rattle.checks.specs.CheckResult.{countedCheck}
 use Rattle.term_text.specs.Terms.{oneDigit, readEquation}
 use Rattle.term_text.specs.declared.Terms.{Terms}
 use Rattle.reading.specs.Got.{Got, after, passing, refuse}

@@ -10,8 +10,8 @@ use Rattle.faults.specs.declared.Fault.{Fault}
 use Rattle.faults.specs.declared.Finding.{Finding}
 use Rattle.faults.specs.Checks.{badUnless, firstOf}
 use Rattle.jobs.specs.declared.Equation.{Equation}
-use Rattle.jobs.specs.Checks.{equationCheck}
-use Rattle.jobs.specs.Terms.{goodTerms}
+use Rattle.checks.specs.Checks.{equationCheck}
+use Rattle.checks.specs.Terms.{goodTerms}
 use Rattle.text.specs.declared.Numbers.{Numbers}
 use Rattle.term_text.specs.declared.Terms.{Terms}
 use Rattle.term_text.specs.Terms.{readEquation}

@@ -1,15 +1,15 @@
 // The lines that hold a list of numbers.
 use crate::places::rows_of;
+use checks::job::high_check;
+use checks::job::inverse_check;
+use checks::job::low_check;
+use checks::job::row_check;
+use checks::result::counted_check;
 use faults::Fault;
 use faults::Finding;
 use faults::bad_unless;
 use faults::first_of;
 use jobs::Row;
-use jobs::check_result::counted_check;
-use jobs::checks::high_check;
-use jobs::checks::inverse_check;
-use jobs::checks::low_check;
-use jobs::checks::row_check;
 use jobs::zero::zero_row;
 use line_read::CellsLine;
 use line_read::LowLine;

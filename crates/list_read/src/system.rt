@@ -2,13 +2,13 @@
 use crate::numbers::count_found;
 use crate::places::cells_of;
 use crate::places::side_of;
+use checks::job::sided_check;
+use checks::terms::good_terms;
 use faults::Fault;
 use faults::Finding;
 use faults::bad_unless;
 use faults::first_of;
 use jobs::Equation;
-use jobs::checks::sided_check;
-use jobs::terms::good_terms;
 use jobs::zero::zero_equation;
 use line_read::EquationLine;
 use line_read::SidedLine;

@@ -8,12 +8,12 @@ use Rattle.intervals.specs.Ranges.{InI}
 use Rattle.intervals.specs.Places.{sideAt}
 use Rattle.faults.proofs.Laws.{fine-first, fine-next, both-fine, unless-fine, fine-unless, fine-line, line-fine}
 use Rattle.faults.proofs.Laws.{done-first, done-next}
-use Rattle.jobs.proofs.RangeLaws.{all-within, within-all, all-ordered, ordered-all}
+use Rattle.checks.proofs.RangeLaws.{all-within, within-all, all-ordered, ordered-all}
 use Rattle.faults.specs.Checks.{firstOf}
-use Rattle.jobs.specs.Checks.{lowCheck, highCheck, checkJob}
-use Rattle.jobs.proofs.CheckLaws.{unknowns-fine}
+use Rattle.checks.specs.Checks.{lowCheck, highCheck, checkJob}
+use Rattle.checks.proofs.CheckLaws.{unknowns-fine}
 use Rattle.systems.specs.Ranges.{BoxIn}
-use Rattle.jobs.proofs.AcceptedLaws.{check-done}
+use Rattle.checks.proofs.AcceptedLaws.{check-done}
 use Rattle.step.specs.Values.{sideOf, boxOf}
 use Rattle.step.proofs.Given.{box-at, box-in}
 use Rattle.faults.specs.declared.Fault.{Fault}

@@ -12,8 +12,8 @@ use Rattle.intervals.specs.Ranges.{InI}
 use Rattle.intervals.proofs.Places.{side-made}
 use Rattle.intervals.proofs.Ranges.{in-more}
 use Rattle.faults.proofs.Laws.{both-fine, fine-line, done-next}
-use Rattle.jobs.specs.Accepted.{Accepted}
-use Rattle.jobs.proofs.AcceptedLaws.{Clean, check-clean, check-done}
+use Rattle.checks.specs.Accepted.{Accepted}
+use Rattle.checks.proofs.AcceptedLaws.{Clean, check-clean, check-done}
 use Rattle.systems.specs.Kinds.{equationOf}
 use Rattle.systems.proofs.Systems.{system-in}
 use Rattle.step.specs.Step.{imageOf, imageBox}

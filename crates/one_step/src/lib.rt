@@ -1,5 +1,9 @@
 // The step in two operations, for whoever wants to see the image before it is used: K of a job and a box, and what X
 // and K decide. Every value is taken: what is handed in is checked first.
+use checks::job::check_job;
+use checks::job::unknowns_check;
+use checks::ranges::all_ordered;
+use checks::ranges::all_within;
 use faults::Fault;
 use faults::Finding;
 use faults::Status;
@@ -12,10 +16,6 @@ use intervals::Interval;
 use jobs::Ends;
 use jobs::Equation;
 use jobs::Job;
-use jobs::checks::check_job;
-use jobs::checks::unknowns_check;
-use jobs::ranges::all_ordered;
-use jobs::ranges::all_within;
 use jobs::zero::zero_ends;
 use sizes::END;
 use sizes::IMAGE;

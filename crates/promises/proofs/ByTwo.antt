@@ -11,8 +11,8 @@ use Rattle.faults.specs.declared.Status.{Status}
 use Rattle.faults.proofs.Laws.{line-fine, both-done}
 use Rattle.jobs.specs.declared.Ends.{Ends}
 use Rattle.jobs.specs.declared.Job.{Job}
-use Rattle.jobs.specs.Checks.{checkJob}
-use Rattle.jobs.proofs.AcceptedLaws.{check-done}
+use Rattle.checks.specs.Checks.{checkJob}
+use Rattle.checks.proofs.AcceptedLaws.{check-done}
 use Rattle.systems.specs.Kinds.{equationOf}
 use Rattle.systems.specs.Ranges.{BoxIn}
 use Rattle.step.specs.declared.Move.{Move}

@@ -14,10 +14,10 @@ use Rattle.faults.specs.declared.Fault.{Fault}
 use Rattle.faults.specs.declared.Status.{Status}
 use Rattle.jobs.specs.declared.Verdict.{Verdict}
 use Rattle.jobs.specs.Zero.{noJob, noResult}
-use Rattle.jobs.specs.Checks.{checkJob}
-use Rattle.jobs.specs.CheckResult.{checkResult}
-use Rattle.jobs.specs.Accepted.{Accepted}
-use Rattle.jobs.proofs.AcceptedLaws.{check-done}
+use Rattle.checks.specs.Checks.{checkJob}
+use Rattle.checks.specs.CheckResult.{checkResult}
+use Rattle.checks.specs.Accepted.{Accepted}
+use Rattle.checks.proofs.AcceptedLaws.{check-done}
 use Rattle.systems.specs.Kinds.{equationOf}
 use Rattle.step.specs.declared.Move.{Move}
 use Rattle.step.specs.Step.{imageBox}

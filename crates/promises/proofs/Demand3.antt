@@ -13,9 +13,9 @@ use Rattle.jobs.specs.declared.Kind.{Kind}
 use Rattle.jobs.specs.declared.Job.{Job}
 use Rattle.faults.specs.declared.Status.{Status}
 use Rattle.jobs.specs.declared.Verdict.{Verdict}
-use Rattle.jobs.specs.Checks.{checkJob}
-use Rattle.jobs.specs.Accepted.{Accepted}
-use Rattle.jobs.proofs.AcceptedLaws.{check-done}
+use Rattle.checks.specs.Checks.{checkJob}
+use Rattle.checks.specs.Accepted.{Accepted}
+use Rattle.checks.proofs.AcceptedLaws.{check-done}
 use Rattle.systems.specs.Kinds.{equationOf}
 use Rattle.step.specs.Step.{imageBox}
 use Rattle.step.specs.Decide.{stepOf}

@@ -6,8 +6,8 @@ use Rattle.jobs.specs.declared.Kind.{Kind}
 use Rattle.jobs.specs.declared.Job.{Job}
 use Rattle.faults.specs.declared.Status.{Status}
 use Rattle.jobs.specs.declared.Equation.{Equation}
-use Rattle.jobs.specs.Accepted.{GoodSystem, Accepted}
-use Rattle.jobs.proofs.AcceptedLaws.{done-check}
+use Rattle.checks.specs.Accepted.{GoodSystem, Accepted}
+use Rattle.checks.proofs.AcceptedLaws.{done-check}
 use Rattle.systems.specs.Kinds.{equationBy, equationOf}
 use Rattle.step.specs.Values.{startOf, inverseOf}
 use Rattle.run.specs.Run.{runOf}

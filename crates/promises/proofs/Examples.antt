@@ -16,12 +16,12 @@ use Rattle.intervals.specs.Fraction.{In}
 use Rattle.intervals.specs.Interval.{addI, negI, sumI, scaleI, wideI, outI, mulI, midI, meetsI, insideI}
 use Rattle.powers.specs.Powers.{powerI}
 use Rattle.matrices.specs.Products.{dotI, dOf, unitZ, entryB, bOf, eOf}
-use Rattle.jobs.specs.Ranges.{oneTo, isWithin, allWithin, allOrdered}
+use Rattle.checks.specs.Ranges.{oneTo, isWithin, allWithin, allOrdered}
 use Rattle.faults.specs.Checks.{badUnless, firstOf, onLine, andThen, linesOf}
-use Rattle.jobs.specs.Checks.{goodMatrix, numberCheck, unknownsCheck, pinCheck}
-use Rattle.jobs.specs.Checks.{lowCheck, highCheck, inverseCheck, stepsCheck}
-use Rattle.jobs.specs.Checks.{rowCheck, sidedCheck, systemCheck, lineCheck}
-use Rattle.jobs.specs.Checks.{jobLineStatus, systemLines, headLines, bodyLines, checkJob}
+use Rattle.checks.specs.Checks.{goodMatrix, numberCheck, unknownsCheck, pinCheck}
+use Rattle.checks.specs.Checks.{lowCheck, highCheck, inverseCheck, stepsCheck}
+use Rattle.checks.specs.Checks.{rowCheck, sidedCheck, systemCheck, lineCheck}
+use Rattle.checks.specs.Checks.{jobLineStatus, systemLines, headLines, bodyLines, checkJob}
 use Rattle.systems.specs.Terms.{factorI, termOver, equationOver, lowered, termSlope, slopeOver}
 use Rattle.systems.specs.Fractions.{unitsOf}
 use Rattle.systems.specs.Kinds.{rowOf, unitE, linearEquation, equationOf}

@@ -12,7 +12,7 @@ use Rattle.integers.proofs.Linear.{zlin}
 use Rattle.integers.proofs.Order.{cancel-r}
 use Rattle.integers.proofs.Ring.{lit, _⊖_, _⊗_, ring}
 use Rattle.intervals.specs.Places.{sideAt, numberAt}
-use Rattle.jobs.specs.Accepted.{GoodSystem, Accepted}
+use Rattle.checks.specs.Accepted.{GoodSystem, Accepted}
 use Rattle.systems.specs.Fractions.{unitsOf, DegreesIn}
 use Rattle.systems.specs.Kinds.{pinned, rowOf, equationBy, equationOf}
 use Rattle.systems.specs.Formulas.{linearNum, coordinate, eigenNum, formulaNum}

@@ -30,9 +30,9 @@ use Rattle.jobs.specs.declared.JobLine.{JobLine}
 use Rattle.jobs.specs.declared.Equation.{Equation}
 use Rattle.jobs.specs.Lines.{pinStands, pinLines, afterN}
 use Rattle.jobs.specs.Parts.{withPin}
-use Rattle.jobs.specs.Ranges.{oneTo}
-use Rattle.jobs.specs.Checks.{pinCheck, lineCheck, systemCheck, jobLineStatus}
-use Rattle.jobs.specs.Checks.{systemLines, headLines, bodyLines, checkJob}
+use Rattle.checks.specs.Ranges.{oneTo}
+use Rattle.checks.specs.Checks.{pinCheck, lineCheck, systemCheck, jobLineStatus}
+use Rattle.checks.specs.Checks.{systemLines, headLines, bodyLines, checkJob}
 use Rattle.lines.specs.Found.{found}
 use Rattle.lines.specs.Lines.{writtenPin, pinOf, lowOf}
 use Rattle.lines.specs.Texts.{countText}

@@ -25,8 +25,8 @@ use Rattle.jobs.specs.declared.JobLine.{JobLine}
 use Rattle.jobs.specs.declared.Verdict.{Verdict}
 use Rattle.jobs.specs.Lines.{pinLines, afterN, jobNumber}
 use Rattle.jobs.specs.Parts.{lastPin, withPin}
-use Rattle.jobs.specs.Checks.{pinCheck, checkJob}
-use Rattle.jobs.proofs.AcceptedLaws.{check-done}
+use Rattle.checks.specs.Checks.{pinCheck, checkJob}
+use Rattle.checks.proofs.AcceptedLaws.{check-done}
 use Rattle.jobs.proofs.LineLaws.{after-n-fourth}
 use Rattle.lines.specs.Lines.{pinOf}
 use Rattle.systems.specs.Fractions.{unitsOf, power, equationNum}

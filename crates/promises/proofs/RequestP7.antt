@@ -13,8 +13,8 @@ use Rattle.faults.specs.declared.Status.{Status}
 use Rattle.jobs.specs.declared.Ends.{Ends}
 use Rattle.jobs.specs.declared.Job.{Job}
 use Rattle.faults.specs.Checks.{firstOf}
-use Rattle.jobs.specs.Checks.{lowCheck, highCheck, checkJob}
-use Rattle.jobs.specs.CheckResult.{checkResult}
+use Rattle.checks.specs.Checks.{lowCheck, highCheck, checkJob}
+use Rattle.checks.specs.CheckResult.{checkResult}
 use Rattle.systems.specs.Kinds.{equationOf}
 use Rattle.step.specs.declared.Move.{Move}
 use Rattle.step.specs.declared.Decision.{Decision}

@@ -12,12 +12,12 @@ use Rattle.integers.proofs.Parts.{zorder}
 use Rattle.integers.proofs.Ranges.{within, within-lo, within-hi}
 use Rattle.lists.proofs.Tab.{getD-tab}
 use Rattle.intervals.specs.Places.{sideAt}
-use Rattle.jobs.specs.Checks.{checkJob}
-use Rattle.jobs.specs.CheckResult.{checkResult}
-use Rattle.jobs.specs.Accepted.{Accepted}
-use Rattle.jobs.proofs.AcceptedLaws.{check-done}
-use Rattle.jobs.proofs.RangeLaws.{within-all, ordered-all}
-use Rattle.jobs.proofs.CheckResultLaws.{Sound, sound, unfaulted}
+use Rattle.checks.specs.Checks.{checkJob}
+use Rattle.checks.specs.CheckResult.{checkResult}
+use Rattle.checks.specs.Accepted.{Accepted}
+use Rattle.checks.proofs.AcceptedLaws.{check-done}
+use Rattle.checks.proofs.RangeLaws.{within-all, ordered-all}
+use Rattle.checks.proofs.CheckResultLaws.{Sound, sound, unfaulted}
 use Rattle.intervals.specs.declared.Interval.{Interval}
 use Rattle.jobs.specs.declared.Job.{Job}
 use Rattle.faults.specs.declared.Status.{Status}

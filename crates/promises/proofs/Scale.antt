@@ -18,7 +18,7 @@ use Rattle.integers.proofs.Sums.{sum-cong, sum-mul-r}
 use Rattle.intervals.specs.Interval.{mark}
 use Rattle.intervals.proofs.Hold.{hold-raise}
 use Rattle.systems.specs.Terms.{coefOf, expsOf}
-use Rattle.jobs.specs.Terms.{degree}
+use Rattle.checks.specs.Terms.{degree}
 use Rattle.systems.specs.Fractions.{InBox, unitsOf, power, termNum, DegreesIn, equationNum}
 use Rattle.systems.proofs.Factors.{power-pos, power-add, times-one}
 use Rattle.step.specs.Newton.{newtonScale, newtonDen, newtonNum}

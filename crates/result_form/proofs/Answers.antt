@@ -7,7 +7,7 @@ use lib.ListN.{length}
 use Rattle.sizes.specs.Sizes.{textMax}
 use Rattle.faults.specs.declared.Fault.{Fault}
 use Rattle.faults.specs.declared.Status.{Status}
-use Rattle.jobs.specs.CheckResult.{checkResult}
+use Rattle.checks.specs.CheckResult.{checkResult}
 use Rattle.jobs.specs.Zero.{noResult}
 use Rattle.jobs.specs.declared.Result.{Result}
 use Rattle.reading.specs.Lines.{Answer, read}

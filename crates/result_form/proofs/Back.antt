@@ -17,8 +17,8 @@ use Rattle.reading.proofs.NumberLines.{count-plain, list-plain}
 use Rattle.reading.proofs.Walk.{Law}
 use Rattle.text.specs.Words.{jobKey, stepsKey, loKey, hiKey}
 use Rattle.jobs.specs.declared.ResultLine.{ResultLine}
-use Rattle.jobs.specs.Checks.{numberCheck, stepsCheck, highCheck}
-use Rattle.jobs.specs.CheckResult.{countedCheck, resultCheck}
+use Rattle.checks.specs.Checks.{numberCheck, stepsCheck, highCheck}
+use Rattle.checks.specs.CheckResult.{countedCheck, resultCheck}
 use Rattle.lines.specs.Found.{found}
 use Rattle.lines.proofs.Found.{found-fine}
 use Rattle.lines.proofs.Words.{verdict-above, verdict-back}

@@ -16,7 +16,7 @@ use Rattle.reading.proofs.NumberLines.{list-line-told}
 use Rattle.reading.proofs.Trips.{Grown, line-same}
 use Rattle.reading.proofs.Walk.{passed-next}
 use Rattle.jobs.specs.declared.ResultLine.{ResultLine}
-use Rattle.jobs.specs.CheckResult.{resultCheck}
+use Rattle.checks.specs.CheckResult.{resultCheck}
 use Rattle.text.specs.Words.{loKey}
 use Rattle.lines.specs.Lines.{anyLowOf}
 use Rattle.result_form.specs.ResultForm.{withNumber, withVerdict, withSteps}

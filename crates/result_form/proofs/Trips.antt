@@ -24,7 +24,7 @@ use Rattle.faults.specs.declared.Fault.{Fault}
 use Rattle.faults.specs.declared.Status.{Status}
 use Rattle.jobs.specs.declared.ResultLine.{ResultLine}
 use Rattle.jobs.specs.Lines.{resultNumber}
-use Rattle.jobs.specs.CheckResult.{resultCheck, resultLineStatus, checkResult}
+use Rattle.checks.specs.CheckResult.{resultCheck, resultLineStatus, checkResult}
 use Rattle.text.specs.Words.{jobKey, stepsKey, loKey, hiKey}
 use Rattle.lines.specs.Found.{statusOf}
 use Rattle.lines.specs.Texts.{verdictText}

@@ -13,7 +13,7 @@ use Rattle.reading.specs.NumberLines.{placed}
 use Rattle.reading.specs.Shows.{Shows, shown}
 use Rattle.jobs.specs.declared.ResultLine.{ResultLine}
 use Rattle.jobs.specs.Lines.{resultNumber}
-use Rattle.jobs.specs.CheckResult.{resultCheck}
+use Rattle.checks.specs.CheckResult.{resultCheck}
 use Rattle.text.specs.Words.{jobKey, stepsKey, loKey, hiKey}
 use Rattle.lines.specs.Texts.{countText, verdictText, rowText}
 use Rattle.lines.specs.Found.{found}

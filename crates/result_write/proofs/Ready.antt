@@ -5,9 +5,9 @@ use mathlib.Core.Path.{_≡_}
 use lib.ListN.{length}
 use Rattle.sizes.specs.Sizes.{nMax, textMax, endMax}
 use Rattle.digits.specs.Number.{digitsMax}
-use Rattle.jobs.specs.CheckResult.{checkResult}
-use Rattle.jobs.proofs.RangeLaws.{all-within}
-use Rattle.jobs.proofs.CheckResultLaws.{Sound, sound}
+use Rattle.checks.specs.CheckResult.{checkResult}
+use Rattle.checks.proofs.RangeLaws.{all-within}
+use Rattle.checks.proofs.CheckResultLaws.{Sound, sound}
 use Rattle.jobs.specs.declared.Result.{Result}
 use Rattle.jobs.specs.declared.ResultLine.{ResultLine}
 use Rattle.faults.specs.declared.Status.{Status}

@@ -8,7 +8,7 @@ use Rattle.sizes.specs.Sizes.{nMax}
 use Rattle.lists.specs.Loops.{tab}
 use Rattle.intervals.specs.Places.{entryAt}
 use Rattle.jobs.specs.Places.{rowAt, equationAt}
-use Rattle.jobs.specs.Checks.{checkJob}
+use Rattle.checks.specs.Checks.{checkJob}
 use Rattle.jobs.specs.Zero.{noResult}
 use Rattle.systems.specs.Kinds.{equationsOf}
 use Rattle.intervals.specs.declared.Interval.{Interval}

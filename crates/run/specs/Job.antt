@@ -1,7 +1,7 @@
 -- Document 01, the run of a job: its values are checked first, and an accepted job answers what its steps give.
 use mathlib.Core.List.{List}
 use Prim.Native.Nat.{ℕ}
-use Rattle.jobs.specs.Checks.{checkJob}
+use Rattle.checks.specs.Checks.{checkJob}
 use Rattle.systems.specs.Kinds.{equationOf}
 use Rattle.jobs.specs.Zero.{noResult}
 use Rattle.intervals.specs.declared.Interval.{Interval}

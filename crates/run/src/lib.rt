@@ -14,7 +14,7 @@ ghost use Prim.Native.Nat.{_≤_};
 ghost use Rattle.sizes.specs.Sizes.{nMax};
 ghost use Rattle.intervals.specs.Places.{entryAt, sideAt};
 ghost use Rattle.jobs.specs.Places.{equationAt};
-ghost use Rattle.jobs.specs.Checks.{checkJob};
+ghost use Rattle.checks.specs.Checks.{checkJob};
 ghost use Rattle.faults.specs.declared.Status.{Status};
 ghost use Rattle.systems.specs.Ranges.{BoxIn};
 ghost use Rattle.step.specs.Ranges.{StepIn};
@@ -140,7 +140,7 @@ pub fn accepted(j: Job) -> Result
 pub fn run(j: Job) -> Answer
     ensures { λ r. ⌜ r ≡ runJob j ⌝ }
 {
-    let status = jobs::checks::check_job(j);
+    let status = checks::job::check_job(j);
     match status {
         Status::Done => Answer {
             status: Status::Done,

@@ -1,4 +1,1 @@
-pub mod Ascii
-pub mod Says
-pub mod Words
 pub mod Sentences

@@ -21,10 +21,10 @@ use Rattle.slips.specs.declared.TermSlip.{TermSlip}
 use Rattle.slips.specs.declared.PinSlip.{PinSlip}
 use Rattle.slips.specs.declared.Slip.{Slip}
 use Rattle.slips.specs.Slips.{faultOf}
-use Rattle.sentences.specs.Ascii.{ascii}
-use Rattle.sentences.specs.Words.{valueWords, keyWords, expectedWords, fieldWords, wrongWords, pinRangeWords}
-use Rattle.sentences.specs.Words.{countWords, counted, someWords}
-use Rattle.sentences.specs.Says.{sentenceMax}
+use Rattle.phrases.specs.Ascii.{ascii}
+use Rattle.phrases.specs.Words.{valueWords, keyWords, expectedWords, fieldWords, wrongWords, pinRangeWords}
+use Rattle.phrases.specs.Words.{countWords, counted, someWords}
+use Rattle.phrases.specs.Says.{sentenceMax}
 
 -- ---- fault 2
 

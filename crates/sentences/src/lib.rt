@@ -1,12 +1,11 @@
 // The sentence beside a fault, for the typist: what stands there and what is expected.
-mod parts;
 mod spelled;
 mod values;
 
-use parts::put_count;
-use parts::put_pin_range;
-use parts::put_value;
-use parts::tell;
+use phrases::put_count;
+use phrases::put_pin_range;
+use phrases::put_value;
+use phrases::tell;
 use sizes::N;
 use sizes::STEPS;
 use sizes::TEXT;
@@ -23,7 +22,7 @@ ghost use Rattle.job_form.specs.JobForm.{readJob};
 ghost use Rattle.result_form.specs.ResultForm.{readResult};
 ghost use Rattle.slips.specs.declared.Slip.{Slip};
 ghost use Rattle.slips.specs.Slips.{foundIn};
-ghost use Rattle.sentences.specs.Says.{Says, sentenceMax};
+ghost use Rattle.phrases.specs.Says.{Says, sentenceMax};
 ghost use Rattle.sentences.specs.Sentences.{unknownsWords, stepsWords, pinnedWords, slipWords, Explains};
 
 // The longest sentence: a buffer of this size has room for any.

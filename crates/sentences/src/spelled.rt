@@ -1,11 +1,11 @@
 // The sentences of fault 2.
-use crate::parts::put_expected;
-use crate::parts::put_field;
-use crate::parts::put_key;
-use crate::parts::put_wrong;
-use crate::parts::tell;
-use crate::parts::tell_first;
-use crate::parts::tell_some;
+use phrases::put_expected;
+use phrases::put_field;
+use phrases::put_key;
+use phrases::put_wrong;
+use phrases::tell;
+use phrases::tell_first;
+use phrases::tell_some;
 use slips::Field;
 use slips::Form;
 use slips::Key;
@@ -18,7 +18,7 @@ use slips::WrongTerm;
 use writing::put_bytes;
 ghost use Prim.Native.Nat.{_≤_};
 ghost use lib.ListN.{length};
-ghost use Rattle.sentences.specs.Says.{Says, sentenceMax, wordsMost};
+ghost use Rattle.phrases.specs.Says.{Says, sentenceMax, wordsMost};
 ghost use Rattle.sentences.specs.Sentences.{lineWords, lineNot, otherKeyWords, neitherKeyWords, numberNot};
 ghost use Rattle.sentences.specs.Sentences.{countNot, exponentsNot, termNot, emptyWords, markWords};
 ghost use Rattle.sentences.specs.Sentences.{lineSlipWords, unlikeWords, wrongTermWords, misspelledWords};

@@ -1,8 +1,8 @@
 // The sentences of faults 4, 5 and 6.
-use crate::parts::put_count;
-use crate::parts::put_value;
-use crate::parts::tell;
-use crate::parts::tell_first;
+use phrases::put_count;
+use phrases::put_value;
+use phrases::tell;
+use phrases::tell_first;
 use sizes::DEGREE;
 use sizes::END;
 use sizes::ENTRY;
@@ -15,7 +15,7 @@ use writing::put_bytes;
 ghost use Prim.Native.Nat.{_+_, _≤_};
 ghost use lib.ListN.{length};
 ghost use Rattle.slips.specs.declared.TermSlip.{TermSlip};
-ghost use Rattle.sentences.specs.Says.{Says, sentenceMax, wordsMost, rangeMost};
+ghost use Rattle.phrases.specs.Says.{Says, sentenceMax, wordsMost, rangeMost};
 ghost use Rattle.sentences.specs.Sentences.{rangeWords, farNot, farWords, crossingWords, crossedWords};
 ghost use Rattle.sentences.specs.Sentences.{jobFarWords, manyWords, degreeWords, sameWords};
 ghost use Rattle.sentences.specs.Sentences.{orderWords, termWords};

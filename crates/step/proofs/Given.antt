@@ -13,9 +13,9 @@ use Rattle.intervals.specs.Places.{numberAt, entryAt, sideAt, vectorOf}
 use Rattle.intervals.specs.Ranges.{InI}
 use Rattle.intervals.proofs.Places.{side-made}
 use Rattle.jobs.specs.Places.{rowAt, equationAt}
-use Rattle.jobs.specs.Checks.{checkJob}
-use Rattle.jobs.specs.Accepted.{GoodEquation, GoodSystem, Accepted}
-use Rattle.jobs.proofs.AcceptedLaws.{check-done}
+use Rattle.checks.specs.Checks.{checkJob}
+use Rattle.checks.specs.Accepted.{GoodEquation, GoodSystem, Accepted}
+use Rattle.checks.proofs.AcceptedLaws.{check-done}
 use Rattle.systems.specs.Terms.{equationOver, slopeOver}
 use Rattle.systems.specs.Kinds.{equationOf, equationsOf}
 use Rattle.systems.specs.Ranges.{BoxIn, EquationIn, PartsIn, JobIn}

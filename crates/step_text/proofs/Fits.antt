@@ -6,7 +6,7 @@ use Rattle.sizes.specs.Sizes.{nMax, imageMax}
 use Rattle.digits.specs.Number.{longMax}
 use Rattle.intervals.specs.Ranges.{InI}
 use Rattle.lines.proofs.Checks.{within-below}
-use Rattle.jobs.proofs.AcceptedLaws.{check-done}
+use Rattle.checks.proofs.AcceptedLaws.{check-done}
 use Rattle.step.specs.Values.{sideOf}
 use Rattle.one_step.specs.OneStep.{imageStatus, imageEnds, decideCheck, givesImage, givesMove}
 use Rattle.one_step.proofs.Given.{ends-in, job-checked, few, moves}

@@ -5,7 +5,7 @@ use Prim.Native.Nat.{ℕ, zero, suc, _+_, _<_, _≤_}
 use native.Mathlib.Nat.{not-suc-le-zero, le-of-suc-le-suc, eq-or-lt-of-le, le-trans, le-refl, le-antisymm}
 use native.Mathlib.Omega.{arith}
 use Rattle.systems.specs.Terms.{lowered}
-use Rattle.jobs.specs.Terms.{degree}
+use Rattle.checks.specs.Terms.{degree}
 use Rattle.lists.specs.Loops.{carry}
 use Rattle.systems.proofs.Exponents.{lowered-same, lowered-other}
 

@@ -15,7 +15,7 @@ use Rattle.intervals.specs.Interval.{mark, addI, sumI, scaleI, wideI, outI, mul
 use Rattle.intervals.specs.Places.{sideAt}
 use Rattle.intervals.specs.declared.Interval.{Interval}
 use Rattle.powers.specs.Powers.{holdsZero, squareRange, squareI, powerI}
-use Rattle.jobs.specs.Terms.{degree}
+use Rattle.checks.specs.Terms.{degree}
 use Rattle.jobs.specs.declared.Kind.{Kind}
 use Rattle.jobs.specs.declared.Equation.{Equation}
 use Rattle.jobs.specs.declared.Row.{Row}

@@ -21,7 +21,7 @@ use Rattle.integers.proofs.Sums.{sum-cong, sum-mul-r}
 use Rattle.intervals.specs.Interval.{mark}
 use Rattle.intervals.specs.Places.{numberAt}
 use Rattle.jobs.specs.Places.{noTerm}
-use Rattle.jobs.specs.Accepted.{GoodPin}
+use Rattle.checks.specs.Accepted.{GoodPin}
 use Rattle.jobs.specs.declared.Kind.{Kind}
 use Rattle.jobs.specs.declared.Term.{Term}
 use Rattle.jobs.specs.declared.Equation.{Equation}

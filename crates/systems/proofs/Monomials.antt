@@ -11,7 +11,7 @@ use Rattle.integers.specs.Sums.{sumTo}
 use Rattle.integers.proofs.Commutative.{*ℤ-assoc, one-*ℤ}
 use Rattle.integers.proofs.Ring.{_⊗_, ring}
 use Rattle.integers.proofs.Sums.{sum-cong, sum-mul-r}
-use Rattle.jobs.specs.Terms.{degree}
+use Rattle.checks.specs.Terms.{degree}
 use Rattle.lists.specs.Loops.{carry}
 use Rattle.jobs.specs.declared.Equation.{Equation}
 use Rattle.systems.specs.Terms.{coefOf, expsOf}

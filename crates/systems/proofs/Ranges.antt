@@ -19,7 +19,7 @@ use Rattle.intervals.specs.Places.{sideAt}
 use Rattle.powers.specs.Powers.{powerI}
 use Rattle.powers.specs.Ranges.{grow}
 use Rattle.powers.proofs.Ranges.{grow-add, grow-mono, grow-scale, in-power}
-use Rattle.jobs.specs.Terms.{degree}
+use Rattle.checks.specs.Terms.{degree}
 use Rattle.sizes.proofs.Sums.{term-room}
 use Rattle.sizes.specs.Bounds.{upMax, termMax, loweredMax, valueMax, partMax, slopeMax}
 use Rattle.intervals.specs.declared.Interval.{Interval}

@@ -18,7 +18,7 @@ use Rattle.lists.proofs.Carry.{carry-cong}
 use Rattle.intervals.specs.Interval.{pointI}
 use Rattle.intervals.specs.Fraction.{In}
 use Rattle.intervals.proofs.Hold.{hold-zero, hold-sum, hold-scale, hold-raise}
-use Rattle.jobs.specs.Terms.{degree}
+use Rattle.checks.specs.Terms.{degree}
 use Rattle.intervals.specs.declared.Interval.{Interval}
 use Rattle.jobs.specs.declared.Equation.{Equation}
 use Rattle.systems.specs.Terms.{coefOf, expsOf, factorI, termOver, lowered, termSlope, slopeOver}

@@ -12,7 +12,7 @@ use Rattle.intervals.specs.Interval.{mark}
 use Rattle.jobs.specs.Places.{noEquation, equationAt}
 use Rattle.jobs.specs.Zero.{zeroEquation}
 use Rattle.intervals.specs.Places.{numberAt}
-use Rattle.jobs.specs.Accepted.{GoodPin}
+use Rattle.checks.specs.Accepted.{GoodPin}
 use Rattle.jobs.specs.declared.Kind.{Kind}
 use Rattle.jobs.specs.declared.Job.{Job}
 use Rattle.systems.specs.Terms.{coefOf}

@@ -7,7 +7,7 @@ use Rattle.sizes.specs.Sizes.{degreeMax}
 use Rattle.lists.specs.Loops.{carry}
 use Rattle.intervals.specs.Fraction.{In}
 use Rattle.intervals.proofs.Hold.{hold-point, hold-raise, hold-sum}
-use Rattle.jobs.specs.Terms.{degree}
+use Rattle.checks.specs.Terms.{degree}
 use Rattle.intervals.specs.declared.Interval.{Interval}
 use Rattle.jobs.specs.declared.Equation.{Equation}
 use Rattle.systems.specs.Terms.{coefOf, expsOf, termOver, equationOver}

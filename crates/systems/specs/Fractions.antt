@@ -9,7 +9,7 @@ use Rattle.integers.specs.Sums.{sumTo}
 unfoldable pub use Rattle.powers.specs.Exact.{power}
 use Rattle.intervals.specs.Interval.{mark}
 use Rattle.intervals.specs.Fraction.{In}
-use Rattle.jobs.specs.Terms.{degree}
+use Rattle.checks.specs.Terms.{degree}
 use Rattle.intervals.specs.declared.Interval.{Interval}
 use Rattle.jobs.specs.declared.Equation.{Equation}
 use Rattle.systems.specs.Terms.{coefOf, expsOf}

@@ -9,8 +9,8 @@ use Rattle.powers.specs.Ranges.{grow}
 use Rattle.sizes.specs.Bounds.{termMax}
 use Rattle.intervals.specs.Places.{numberAt}
 use Rattle.jobs.specs.Places.{equationAt}
-use Rattle.jobs.specs.Terms.{degree}
-use Rattle.jobs.specs.Accepted.{GoodPin}
+use Rattle.checks.specs.Terms.{degree}
+use Rattle.checks.specs.Accepted.{GoodPin}
 use Rattle.intervals.specs.declared.Interval.{Interval}
 use Rattle.jobs.specs.declared.Kind.{Kind}
 use Rattle.jobs.specs.declared.Equation.{Equation}

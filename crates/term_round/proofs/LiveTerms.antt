@@ -11,8 +11,8 @@ use Rattle.lists.proofs.Carry.{carry-cong}
 use Rattle.lists.proofs.All.{all-cong}
 use Rattle.jobs.specs.Places.{noTerm, expOf, termAt}
 use Rattle.jobs.specs.Zero.{zeroTerm}
-use Rattle.jobs.specs.Ranges.{isWithin}
-use Rattle.jobs.specs.Terms.{degree, alike, falls, inOrder, goodTerm, goodPlace, goodTerms, goodCoefs}
+use Rattle.checks.specs.Ranges.{isWithin}
+use Rattle.checks.specs.Terms.{degree, alike, falls, inOrder, goodTerm, goodPlace, goodTerms, goodCoefs}
 use Rattle.jobs.specs.declared.Term.{Term}
 use Rattle.jobs.specs.declared.Equation.{Equation}
 use Rattle.term_round.specs.Live.{liveTerm, liveEquation}

@@ -9,7 +9,7 @@ use Rattle.digits.specs.Number.{digitsMax}
 use Rattle.digits.specs.Show.{showNumber}
 use Rattle.text.specs.Lists.{joined}
 use Rattle.jobs.specs.Places.{expOf, termAt}
-use Rattle.jobs.specs.Accepted.{GoodEquation}
+use Rattle.checks.specs.Accepted.{GoodEquation}
 use Rattle.writing.specs.Wrote.{placeMax}
 use Rattle.text.specs.Words.{eqKey}
 use Rattle.term_text.specs.Terms.{colon}

@@ -7,7 +7,7 @@ use lib.ListN.{length, take, drop, length-append}
 use lib.Seq.{take-append-seam}
 use borrow.Author.Tests.{le-ltb}
 use Rattle.sizes.specs.Sizes.{textMax}
-use Rattle.jobs.specs.CheckResult.{checkResult}
+use Rattle.checks.specs.CheckResult.{checkResult}
 use Rattle.jobs.specs.declared.Result.{Result}
 use Rattle.faults.specs.declared.Status.{Status}
 use Rattle.writing.specs.Wrote.{Wrote}

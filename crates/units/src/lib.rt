@@ -1,7 +1,7 @@
 // An answer in units beside the marks, for people. It is exact: a mark has a finite decimal.
 ghost use mathlib.Core.Path.{_≡_};
 ghost use Rattle.faults.specs.declared.Status.{Status};
-ghost use Rattle.jobs.specs.CheckResult.{checkResult};
+ghost use Rattle.checks.specs.CheckResult.{checkResult};
 ghost use Rattle.faults.specs.Answer.{Leaves};
 ghost use Rattle.desk.specs.Desk.{runStatus, solveStatus};
 ghost use Rattle.units.specs.Show.{unitsOf, unitsRun, unitsText, TextFits};
@@ -9,12 +9,12 @@ ghost use Rattle.units.specs.Show.{unitsOf, unitsRun, unitsText, TextFit
 pub mod numbers;
 pub mod sides;
 
+use checks::result::check_result;
 use faults::Fault;
 use faults::Status;
 use faults::Written;
 use jobs::Job;
 use jobs::Result;
-use jobs::check_result::check_result;
 use sides::put_unknowns;
 use sizes::TEXT;
 use writing::put_bytes;

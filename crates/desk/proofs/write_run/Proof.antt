@@ -2,7 +2,7 @@
 use borrow.Author.Needs.{needs}
 use mathlib.Core.Path.{_≡_, refl}
 use Rattle.faults.specs.declared.Status.{Status}
-use Rattle.jobs.specs.CheckResult.{checkResult}
+use Rattle.checks.specs.CheckResult.{checkResult}
 use Rattle.run.proofs.JobLaws.{answer-done}
 use Rattle.promises.proofs.Results.{result-checked}
 use Rattle.desk.specs.Desk.{runStatus, runText}

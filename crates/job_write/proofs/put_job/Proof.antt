@@ -1,7 +1,7 @@
 -- `job_write::put_job` meets its contract.
 use borrow.Author.Needs.{needs}
 use native.Mathlib.Omega.{arith}
-use Rattle.jobs.proofs.AcceptedLaws.{check-done}
+use Rattle.checks.proofs.AcceptedLaws.{check-done}
 use Rattle.writing.proofs.Wrote.{wrote-append, wrote-as}
 use Rattle.job_write.proofs.Parts.{job-parts, parts-short}
 use Rattle.job_write.proofs.put_job.Statement.{statement}

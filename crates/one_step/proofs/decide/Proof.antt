@@ -4,7 +4,7 @@ use borrow.Author.Needs.{needs}
 use Rattle.faults.specs.Checks.{onLine}
 use Rattle.faults.specs.declared.Finding.{Finding}
 use Rattle.faults.proofs.Laws.{fine-first, fine-line}
-use Rattle.jobs.proofs.CheckLaws.{unknowns-fine}
+use Rattle.checks.proofs.CheckLaws.{unknowns-fine}
 use Rattle.one_step.specs.OneStep.{decideCheck, givesMove}
 use Rattle.one_step.proofs.decide.Statement.{statement}
 use Rattle.one_step.proofs.decide.Tie as tie

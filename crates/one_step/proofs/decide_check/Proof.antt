@@ -3,7 +3,7 @@ use mathlib.Core.Path.{sym, ap₂, _∙_}
 use borrow.Author.Needs.{needs}
 use Rattle.faults.specs.Checks.{firstOf}
 use Rattle.faults.proofs.Laws.{is-fine, not-fine, fine-then}
-use Rattle.jobs.proofs.CheckLaws.{unknowns-fine}
+use Rattle.checks.proofs.CheckLaws.{unknowns-fine}
 use Rattle.one_step.specs.OneStep.{decideCheck}
 use Rattle.one_step.proofs.decide_check.Statement.{statement}
 use Rattle.one_step.proofs.decide_check.Tie as tie

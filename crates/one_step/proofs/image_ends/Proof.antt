@@ -1,6 +1,6 @@
 -- image_ends: what the checks found nothing in is what a step takes.
 use mathlib.Core.Path.{ap, _∙_}
-use Rattle.jobs.proofs.AcceptedLaws.{check-done}
+use Rattle.checks.proofs.AcceptedLaws.{check-done}
 use Rattle.step.specs.Values.{boxOf, endsOf}
 use Rattle.step.proofs.Given.{job-in, step-in, image-made}
 use Rattle.one_step.specs.OneStep.{imageEnds}

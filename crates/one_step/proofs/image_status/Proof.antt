@@ -4,7 +4,7 @@ use borrow.Author.Needs.{needs}
 use Rattle.faults.specs.Checks.{onLine}
 use Rattle.faults.specs.declared.Finding.{Finding}
 use Rattle.faults.proofs.Laws.{not-bad, bad-first, good-first}
-use Rattle.jobs.proofs.AcceptedLaws.{check-done}
+use Rattle.checks.proofs.AcceptedLaws.{check-done}
 use Rattle.one_step.specs.OneStep.{imageStatus}
 use Rattle.one_step.proofs.image_status.Statement.{statement}
 use Rattle.one_step.proofs.image_status.Tie as tie

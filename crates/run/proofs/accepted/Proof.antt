@@ -1,6 +1,6 @@
 -- accepted: the job's own box is in range.
 use mathlib.Core.Path.{ap, _∙_}
-use Rattle.jobs.proofs.AcceptedLaws.{check-done}
+use Rattle.checks.proofs.AcceptedLaws.{check-done}
 use Rattle.step.proofs.Given.{start-in}
 use Rattle.run.specs.Job.{outcomeOf, resultOf}
 use Rattle.run.proofs.accepted.Statement.{statement}

@@ -1,6 +1,6 @@
 -- run_from: what the check found nothing in is what a step takes.
 use mathlib.Core.Path.{_∙_}
-use Rattle.jobs.proofs.AcceptedLaws.{check-done}
+use Rattle.checks.proofs.AcceptedLaws.{check-done}
 use Rattle.step.proofs.Given.{job-in, step-in}
 use Rattle.run.proofs.JobLaws.{run-made}
 use Rattle.run.proofs.run_from.Statement.{statement}

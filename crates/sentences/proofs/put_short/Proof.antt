@@ -2,7 +2,7 @@
 use native.Mathlib.Omega.{arith}
 use borrow.Author.Needs.{needs}
 use Rattle.sentences.specs.Sentences.{slipWords}
-use Rattle.sentences.proofs.Says.{says-most, says-words}
+use Rattle.phrases.proofs.Says.{says-most, says-words}
 use Rattle.sentences.proofs.put_short.Statement.{statement}
 use Rattle.sentences.proofs.put_short.Tie as tie
 

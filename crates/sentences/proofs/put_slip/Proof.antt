@@ -5,7 +5,7 @@ use mir.Val.{SFits}
 use mir.Facts.{toZ-ofZ}
 use borrow.Author.Needs.{needs}
 use Rattle.sentences.specs.Sentences.{slipWords}
-use Rattle.sentences.proofs.Says.{says-most, says-none}
+use Rattle.phrases.proofs.Says.{says-most, says-none}
 use Rattle.sentences.proofs.put_slip.Statement.{statement}
 use Rattle.sentences.proofs.put_slip.Tie as tie
 

@@ -1,7 +1,7 @@
 -- `sentences::put_unknowns` meets its contract.
 use native.Mathlib.Omega.{arith}
 use borrow.Author.Needs.{needs}
-use Rattle.sentences.proofs.Says.{says-most, says-then}
+use Rattle.phrases.proofs.Says.{says-most, says-then}
 use Rattle.sentences.proofs.put_unknowns.Statement.{statement}
 use Rattle.sentences.proofs.put_unknowns.Tie as tie
 

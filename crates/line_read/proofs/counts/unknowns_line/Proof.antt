@@ -2,7 +2,7 @@
 use mathlib.Core.Path.{refl, ap₂, _∙_}
 use Rattle.faults.specs.Checks.{firstOf}
 use Rattle.text.specs.Keys.{bodyOf}
-use Rattle.jobs.specs.Checks.{unknownsCheck}
+use Rattle.checks.specs.Checks.{unknownsCheck}
 use Rattle.text.specs.Words.{nKey}
 use Rattle.lines.specs.Lines.{digitIs, unknownsOf}
 use Rattle.line_read.specs.At.{smallAt}

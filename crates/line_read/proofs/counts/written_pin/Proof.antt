@@ -5,7 +5,7 @@ use borrow.Author.Needs.{needs}
 use borrow.Author.Tests.{ne-eqb}
 use Rattle.faults.specs.declared.Fault.{Fault}
 use Rattle.faults.specs.Checks.{badUnless}
-use Rattle.jobs.specs.Checks.{pinCheck}
+use Rattle.checks.specs.Checks.{pinCheck}
 use Rattle.lines.proofs.Pins.{written-is, written-last}
 use Rattle.line_read.proofs.counts.written_pin.Statement.{statement}
 use Rattle.line_read.proofs.counts.written_pin.Tie as tie

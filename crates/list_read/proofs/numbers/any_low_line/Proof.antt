@@ -3,7 +3,7 @@ use mathlib.Core.Path.{refl, ap₂, _∙_}
 use Rattle.sizes.specs.Sizes.{nMax}
 use Rattle.faults.specs.Checks.{firstOf}
 use Rattle.faults.specs.declared.Fault.{Fault}
-use Rattle.jobs.specs.CheckResult.{countedCheck}
+use Rattle.checks.specs.CheckResult.{countedCheck}
 use Rattle.text.specs.Words.{loKey}
 use Rattle.reading.specs.NumberLines.{listLine}
 use Rattle.lines.specs.Lines.{anyLowOf}

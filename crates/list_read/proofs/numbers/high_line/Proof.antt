@@ -2,7 +2,7 @@
 use mathlib.Core.Path.{refl, ap₂, _∙_}
 use Rattle.sizes.specs.Sizes.{nMax}
 use Rattle.faults.specs.Checks.{firstOf}
-use Rattle.jobs.specs.Checks.{highCheck}
+use Rattle.checks.specs.Checks.{highCheck}
 use Rattle.text.specs.Words.{hiKey}
 use Rattle.lines.specs.Lines.{numbersOf, highOf}
 use Rattle.line_read.specs.At.{cellsAt}

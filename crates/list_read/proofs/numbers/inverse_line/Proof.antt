@@ -4,7 +4,7 @@ use Prim.Native.Nat.{_*_}
 use native.Mathlib.Omega.{arith}
 use Rattle.text.specs.Lists.{placesMax}
 use Rattle.faults.specs.Checks.{firstOf}
-use Rattle.jobs.specs.Checks.{inverseCheck}
+use Rattle.checks.specs.Checks.{inverseCheck}
 use Rattle.text.specs.Words.{invKey}
 use Rattle.lines.specs.Lines.{numbersOf, inverseOf}
 use Rattle.lines.specs.Places.{rowsOf}

@@ -2,7 +2,7 @@
 use mathlib.Core.Path.{refl, ap₂, _∙_}
 use Rattle.sizes.specs.Sizes.{nMax}
 use Rattle.faults.specs.Checks.{firstOf}
-use Rattle.jobs.specs.Checks.{lowCheck}
+use Rattle.checks.specs.Checks.{lowCheck}
 use Rattle.text.specs.Words.{loKey}
 use Rattle.lines.specs.Lines.{numbersOf, lowOf}
 use Rattle.line_read.specs.At.{cellsAt}

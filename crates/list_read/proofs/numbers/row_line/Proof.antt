@@ -2,7 +2,7 @@
 use mathlib.Core.Path.{refl, ap₂, _∙_}
 use Rattle.sizes.specs.Sizes.{nMax}
 use Rattle.faults.specs.Checks.{firstOf}
-use Rattle.jobs.specs.Checks.{rowCheck}
+use Rattle.checks.specs.Checks.{rowCheck}
 use Rattle.text.specs.Words.{rowKey}
 use Rattle.lines.specs.Lines.{numbersOf, rowOf}
 use Rattle.line_read.specs.At.{cellsAt}

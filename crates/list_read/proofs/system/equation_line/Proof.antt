@@ -3,7 +3,7 @@ use mathlib.Core.Path.{refl, ap, ap₂, _∙_}
 use mathlib.Core.Bool.{Bool}
 use Rattle.faults.specs.declared.Fault.{Fault}
 use Rattle.faults.specs.Checks.{badUnless, firstOf}
-use Rattle.jobs.specs.Checks.{equationCheck}
+use Rattle.checks.specs.Checks.{equationCheck}
 use Rattle.term_text.specs.Terms.{readEquation}
 use Rattle.line_read.specs.At.{equationAt}
 use Rattle.list_read.specs.Found.{termsIs}

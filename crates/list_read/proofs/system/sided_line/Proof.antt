@@ -5,7 +5,7 @@ use mathlib.Core.Path.{refl, ap₂, _∙_}
 use Prim.Native.Nat.{_+_}
 use Rattle.text.specs.Lists.{placesMax}
 use Rattle.faults.specs.Checks.{firstOf}
-use Rattle.jobs.specs.Checks.{sidedCheck}
+use Rattle.checks.specs.Checks.{sidedCheck}
 use Rattle.text.specs.Words.{rowKey}
 use Rattle.lines.specs.Lines.{numbersOf, sidedBy, sidedOf}
 use Rattle.line_read.specs.At.{sidedAt}

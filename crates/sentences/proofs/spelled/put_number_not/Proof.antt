@@ -1,7 +1,7 @@
 -- `sentences::spelled::put_number_not` meets its contract.
 use native.Mathlib.Omega.{arith}
 use borrow.Author.Needs.{needs}
-use Rattle.sentences.proofs.Says.{says-most, says-then}
+use Rattle.phrases.proofs.Says.{says-most, says-then}
 use Rattle.sentences.proofs.spelled.put_number_not.Statement.{statement}
 use Rattle.sentences.proofs.spelled.put_number_not.Tie as tie
 

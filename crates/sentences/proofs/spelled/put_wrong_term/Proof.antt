@@ -2,7 +2,7 @@
 use native.Mathlib.Omega.{arith}
 use borrow.Author.Needs.{needs}
 use Rattle.sentences.specs.Sentences.{wrongTermWords}
-use Rattle.sentences.proofs.Says.{says-most}
+use Rattle.phrases.proofs.Says.{says-most}
 use Rattle.sentences.proofs.spelled.put_wrong_term.Statement.{statement}
 use Rattle.sentences.proofs.spelled.put_wrong_term.Tie as tie
 

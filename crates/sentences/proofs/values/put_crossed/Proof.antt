@@ -5,7 +5,7 @@ use mir.Val.{SFits}
 use mir.Facts.{toZ-ofZ}
 use borrow.Author.Needs.{needs}
 use Rattle.sentences.specs.Sentences.{crossedWords}
-use Rattle.sentences.proofs.Says.{says-most, says-words}
+use Rattle.phrases.proofs.Says.{says-most, says-words}
 use Rattle.sentences.proofs.values.put_crossed.Statement.{statement}
 use Rattle.sentences.proofs.values.put_crossed.Tie as tie
 

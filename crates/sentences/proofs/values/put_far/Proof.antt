@@ -5,7 +5,7 @@ use mir.Val.{SFits}
 use mir.Facts.{toZ-ofZ}
 use borrow.Author.Needs.{needs}
 use Rattle.sentences.specs.Sentences.{farWords}
-use Rattle.sentences.proofs.Says.{says-most}
+use Rattle.phrases.proofs.Says.{says-most}
 use Rattle.sentences.proofs.values.put_far.Statement.{statement}
 use Rattle.sentences.proofs.values.put_far.Tie as tie
 

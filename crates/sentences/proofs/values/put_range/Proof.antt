@@ -1,7 +1,7 @@
 -- `sentences::values::put_range` meets its contract.
 use native.Mathlib.Omega.{arith}
 use borrow.Author.Needs.{needs}
-use Rattle.sentences.proofs.Says.{says-most, says-then, says-words}
+use Rattle.phrases.proofs.Says.{says-most, says-then, says-words}
 use Rattle.sentences.proofs.values.put_range.Statement.{statement}
 use Rattle.sentences.proofs.values.put_range.Tie as tie
 

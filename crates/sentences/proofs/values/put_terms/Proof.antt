@@ -2,7 +2,7 @@
 use native.Mathlib.Omega.{arith}
 use borrow.Author.Needs.{needs}
 use Rattle.sentences.specs.Sentences.{termWords}
-use Rattle.sentences.proofs.Says.{says-most, says-words}
+use Rattle.phrases.proofs.Says.{says-most, says-words}
 use Rattle.sentences.proofs.values.put_terms.Statement.{statement}
 use Rattle.sentences.proofs.values.put_terms.Tie as tie
 
