@@ -1,4 +1,4 @@
-// The phrases that the sentences beside a fault are made of: counts, keys, what a line must be, what is wrong with a number.
+// What sentences beside a fault are made of: counts, keys, what a line must be, what is wrong with a number.
 use checks::ranges::within;
 use digits::DIGITS;
 use sizes::NUMBER;
