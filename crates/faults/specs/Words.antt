@@ -1,5 +1,7 @@
 -- The documents' numbers for the cases of the values' enums.
 use Prim.Native.Nat.{ℕ}
+use mathlib.Core.Bool.{cond}
+use lib.Dec.{eqb}
 use Rattle.faults.specs.declared.Fault.{Fault}
 use Rattle.faults.specs.declared.Status.{Status}
 
@@ -14,6 +16,22 @@ faultNumber Fault.Terms = 6
 faultNumber Fault.ShortBuffer = 7
 faultNumber Fault.Steps = 8
 faultNumber Fault.Pin = 9
+
+-- the last of these numbers
+abbrev pub faultMax : ℕ
+faultMax = 9
+
+-- the fault of a number, 1 to the last
+unfoldable pub faultOf : ℕ → Fault
+faultOf k =
+    cond (eqb k 1) Fault.LongText
+    (cond (eqb k 2) Fault.Spelling
+    (cond (eqb k 3) Fault.Unknowns
+    (cond (eqb k 4) Fault.Beyond
+    (cond (eqb k 5) Fault.Crossed
+    (cond (eqb k 6) Fault.Terms
+    (cond (eqb k 7) Fault.ShortBuffer
+    (cond (eqb k 8) Fault.Steps Fault.Pin)))))))
 
 -- "A fault returns its number and a line": 0 and 0 where there is none
 abbrev pub numberOf : Status → ℕ

@@ -1,6 +1,6 @@
 // The faults, the answer of a check, and the answer of a text's writer.
 ghost use mathlib.Core.Path.{_≡_};
-ghost use Rattle.faults.specs.Words.{faultNumber};
+ghost use Rattle.faults.specs.Words.{faultNumber, faultOf};
 ghost use Rattle.faults.specs.Checks.{isBad, andThen, isFine, badUnless, firstOf, onLine};
 
 // The faults 1 to 8 of document 01's table, in its order, then those of document 02.
@@ -15,6 +15,9 @@ pub enum Fault {
     Steps,
     Pin,
 }
+
+// The last of their numbers.
+pub const FAULTS: u64 = 9;
 
 // What the check of one line finds.
 pub enum Finding {
@@ -47,6 +50,23 @@ pub fn fault_number(f: Fault) -> u64
         Fault::ShortBuffer => 7,
         Fault::Steps => 8,
         Fault::Pin => 9,
+    }
+}
+
+// The fault of a number, 1 to the last.
+pub fn fault_of(number: u64) -> Fault
+    ensures { λ r. ⌜ r ≡ faultOf number ⌝ }
+{
+    match number {
+        1 => Fault::LongText,
+        2 => Fault::Spelling,
+        3 => Fault::Unknowns,
+        4 => Fault::Beyond,
+        5 => Fault::Crossed,
+        6 => Fault::Terms,
+        7 => Fault::ShortBuffer,
+        8 => Fault::Steps,
+        _ => Fault::Pin,
     }
 }
 

@@ -82,10 +82,13 @@ jobForm = record {
   odd = Fault.Spelling;
 }
 
--- the answer: "everything is zero beside a fault"
+-- "everything is zero beside a fault"
+abbrev pub refusedWith : Status → JobRead
+refusedWith st = record { status = st; job = noJob }
+
 abbrev pub jobAnswer : Answer Fault Job → JobRead
 jobAnswer (Answer.done j) = record { status = Status.Done; job = j }
-jobAnswer (Answer.refused f n) = record { status = Status.Refused f n; job = noJob }
+jobAnswer (Answer.refused f n) = refusedWith (Status.Refused f n)
 
 unfoldable pub readJob : List ℕ → JobRead
 readJob t = jobAnswer (read jobForm t)

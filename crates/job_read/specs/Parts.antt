@@ -15,7 +15,6 @@ use Rattle.jobs.specs.Lines.{afterN, jobNumber}
 use Rattle.jobs.specs.Zero.{zeroBody, noJob}
 use Rattle.jobs.specs.Parts.{lastPin, withHead, withEnds, withInverse, withSteps, withSystem}
 use Rattle.line_read.specs.States.{Leads}
-use Rattle.job_form.specs.declared.JobRead.{JobRead}
 use Rattle.job_form.specs.JobForm.{jobForm, afterSystem}
 use Rattle.job_read.specs.declared.HeadAt.{HeadAt}
 use Rattle.job_read.specs.declared.BoxAt.{BoxAt}
@@ -75,6 +74,3 @@ pub record LineFrom (t : List ℕ) (a : ℕ) (head : Head) (r : LineEnd) : Type 
 pub record SystemEnds (t : List ℕ) (a : ℕ) (head : Head) (r : SystemEnd) : Type 0 where
   pub system : Body
   pub from : SystemFrom t a head (record { status = r .status; system = system; next = r .next })
-
-abbrev pub refusedWith : Status → JobRead
-refusedWith st = record { status = st; job = noJob }

@@ -9,6 +9,7 @@ use jobs::Head;
 use jobs::JobLine;
 use jobs::Kind;
 use jobs::lines::job_line_number;
+use jobs::lines::last_pin;
 use jobs::zero::zero_ends;
 use jobs::zero::zero_head;
 use jobs::zero::zero_row;
@@ -26,7 +27,6 @@ ghost use mathlib.Core.Path.{_≡_};
 ghost use Prim.Native.Nat.{_≤_};
 ghost use lib.ListN.{length};
 ghost use Rattle.sizes.specs.Sizes.{nMax};
-ghost use Rattle.jobs.specs.Parts.{lastPin};
 ghost use Rattle.job_read.specs.Parts.{Unpinned, NamesFrom, PinFrom, HeadFrom, BoxFrom};
 
 fn no_head(status: Status) -> HeadAt
@@ -36,17 +36,6 @@ fn no_head(status: Status) -> HeadAt
         status,
         head: zero_head(),
         next: 0,
-    }
-}
-
-// The pin where no line says it: n in an eigenpair's job.
-fn last_pin(kind: Kind, n: usize) -> usize
-    ensures { λ r. ⌜ r ≡ lastPin kind n ⌝ }
-{
-    match kind {
-        Kind::Poly => 0,
-        Kind::Linear => 0,
-        Kind::Eigen => n,
     }
 }
 

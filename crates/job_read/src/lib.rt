@@ -5,7 +5,6 @@ mod system;
 
 ghost use mathlib.Core.Path.{_≡_};
 ghost use Rattle.job_form.specs.JobForm.{readJob};
-ghost use Rattle.job_read.specs.Parts.{refusedWith};
 use ends::system_end;
 use faults::Fault;
 use faults::Finding;
@@ -14,6 +13,7 @@ use faults::is_bad;
 use first::box_at;
 use first::head_at;
 use job_form::JobRead;
+use job_form::refused;
 use jobs::Body;
 use jobs::Ends;
 use jobs::Head;
@@ -21,7 +21,6 @@ use jobs::Job;
 use jobs::JobLine;
 use jobs::Row;
 use jobs::lines::job_line_number;
-use jobs::zero::no_job;
 use sizes::N;
 use sizes::TEXT;
 use system::system_at;
@@ -56,15 +55,6 @@ struct LineEnd {
 struct SystemEnd {
     status: Status,
     next: usize,
-}
-
-fn refused(status: Status) -> JobRead
-    ensures { λ r. ⌜ r ≡ refusedWith status ⌝ }
-{
-    JobRead {
-        status,
-        job: no_job(),
-    }
 }
 
 // The whole text.

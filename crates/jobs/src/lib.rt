@@ -14,18 +14,21 @@ pub enum Kind {
 }
 
 // A coefficient in marks, and an exponent for each unknown.
+#[repr(C)]
 pub struct Term {
     pub coef: i64,
     pub exps: [u8; N],
 }
 
 // The first `count` of its terms are live.
+#[repr(C)]
 pub struct Equation {
     pub count: usize,
     pub terms: [Term; TERMS],
 }
 
 // A row of a matrix. (A field that is an array of arrays is not covered by the borrow checker, an array of these is.)
+#[repr(C)]
 pub struct Row {
     pub at: [i64; N],
 }

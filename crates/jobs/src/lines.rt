@@ -6,6 +6,7 @@ use crate::ResultLine;
 ghost use mathlib.Core.Path.{_≡_};
 ghost use Prim.Native.Nat.{_≤_};
 ghost use Rattle.sizes.specs.Sizes.{nMax};
+ghost use Rattle.jobs.specs.Parts.{lastPin};
 ghost use Rattle.jobs.specs.Lines.{pinStands, pinLines, afterN, stepsNumber, systemNumber, jobNumber};
 ghost use Rattle.jobs.specs.Lines.{LineFits, resultNumber, JobNumbered, ResultNumbered};
 
@@ -27,8 +28,19 @@ fn pin_lines(head: Head) -> u64
     if pin_written(head) { 1 } else { 0 }
 }
 
+// The pin where no line says it: n in an eigenpair's job.
+pub fn last_pin(kind: Kind, n: usize) -> usize
+    ensures { λ r. ⌜ r ≡ lastPin kind n ⌝ }
+{
+    match kind {
+        Kind::Poly => 0,
+        Kind::Linear => 0,
+        Kind::Eigen => n,
+    }
+}
+
 // The line after n.
-fn after_n(kind: Kind) -> JobLine
+pub fn after_n(kind: Kind) -> JobLine
     ensures { λ r. ⌜ r ≡ afterN kind ⌝ }
 {
     match kind {

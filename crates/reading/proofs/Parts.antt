@@ -32,7 +32,7 @@ module _ {F L X : Type 0} (g : Form F L X) where
       let size : p .size + length a + length b ≡ p .size + length (a ++ b) = omega (arith, length-append a b) in
       ap₂ partOf (sym (feeds-append (step g) lineFeed (p .cut) a b)) size
 
-  more-none : (p : Part F L X) → more g p [] ≡ p
+  pub more-none : (p : Part F L X) → more g p [] ≡ p
   unfolding more feeds
   more-none p = let e : p .size + 0 ≡ p .size = omega arith in ap (partOf (p .cut)) e
 

@@ -5,8 +5,7 @@ use native.Mathlib.Omega.{arith}
 use Rattle.faults.specs.declared.Status.{Status}
 use Rattle.faults.specs.declared.Fault.{Fault}
 use Rattle.reading.proofs.Goes.{read-long}
-use Rattle.job_form.specs.JobForm.{jobForm, jobAnswer, readJob}
-use Rattle.job_read.specs.Parts.{refusedWith}
+use Rattle.job_form.specs.JobForm.{jobForm, jobAnswer, refusedWith, readJob}
 use Rattle.line_read.proofs.Ways.{leads-inside, leads-on, read-bad, read-extra, read-done}
 use borrow.Author.Needs.{needs}
 use Rattle.job_read.proofs.read_job.Statement.{statement}

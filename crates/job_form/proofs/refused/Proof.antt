@@ -1,7 +1,7 @@
--- `job_read::refused` meets its contract.
+-- `job_form::refused` meets its contract.
 use borrow.Author.Needs.{needs}
-use Rattle.job_read.proofs.refused.Statement.{statement}
-use Rattle.job_read.proofs.refused.Tie as tie
+use Rattle.job_form.proofs.refused.Statement.{statement}
+use Rattle.job_form.proofs.refused.Tie as tie
 
 returns : tie.Need-returns
 returns c = rw (c .no-job .ensures)

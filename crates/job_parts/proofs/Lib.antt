@@ -1,0 +1,4 @@
+pub mod Fits
+pub mod Takes
+pub mod Ends
+pub mod Whole

@@ -1,0 +1,4 @@
+pub mod Arms
+pub mod Backs
+pub mod Rooms
+pub mod Fits
