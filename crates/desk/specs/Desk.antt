@@ -7,18 +7,26 @@ use Rattle.checks.specs.Checks.{checkJob}
 use Rattle.checks.specs.CheckResult.{checkResult}
 use Rattle.result_form.specs.ResultForm.{readResult}
 use Rattle.result_form.specs.ResultShows.{showResult}
+use Rattle.job_form.specs.declared.JobRead.{JobRead}
 use Rattle.job_form.specs.JobForm.{readJob}
 use Rattle.job_form.specs.JobBytes.{jobBytes}
 use Rattle.run.specs.Job.{runJob}
 use Rattle.faults.specs.declared.Status.{Status}
 use Rattle.jobs.specs.declared.Job.{Job}
 
+-- what a job's reader answers is written
+abbrev pub writtenStatus : JobRead → Status
+writtenStatus r = andThen (r .status) (checkJob (r .job))
+
+abbrev pub writtenText : JobRead → List ℕ
+writtenText r = jobBytes (r .job)
+
 -- a job text is read and written again
 unfoldable pub jobStatus : List ℕ → Status
-jobStatus t = andThen (readJob t .status) (checkJob (readJob t .job))
+jobStatus t = writtenStatus (readJob t)
 
 unfoldable pub jobText : List ℕ → List ℕ
-jobText t = jobBytes (readJob t .job)
+jobText t = writtenText (readJob t)
 
 -- a result text is read and written again
 unfoldable pub resultStatus : List ℕ → Status
@@ -34,9 +42,16 @@ runStatus j = andThen (runJob j .status) (checkResult (runJob j .result))
 unfoldable pub runText : Job → List ℕ
 runText j = showResult (runJob j .result)
 
+-- what a job's reader answers is run
+abbrev pub solvedStatus : JobRead → Status
+solvedStatus r = andThen (r .status) (runStatus (r .job))
+
+abbrev pub solvedText : JobRead → List ℕ
+solvedText r = runText (r .job)
+
 -- a job text is read, run and answered
 unfoldable pub solveStatus : List ℕ → Status
-solveStatus t = andThen (readJob t .status) (runStatus (readJob t .job))
+solveStatus t = solvedStatus (readJob t)
 
 unfoldable pub solveText : List ℕ → List ℕ
-solveText t = runText (readJob t .job)
+solveText t = solvedText (readJob t)
