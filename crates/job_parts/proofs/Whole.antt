@@ -3,7 +3,7 @@ use Prim.Native.Nat.{ℕ, zero, suc, _+_, _-_, _≤_, _<_}
 use native.Mathlib.Omega.{arith}
 use native.Mathlib.Numerals.{add-one}
 use mathlib.Core.Path.{_≡_, refl, sym, ap, ap₂, _∙_}
-use mathlib.Core.List.{List, [], _∷_, _++_}
+use mathlib.Core.List.{List, [], _∷_, _++_, foldl, foldl-append}
 use mathlib.Core.Bool.{Bool, true, false, cond}
 use mathlib.Core.Logic.{_⊎_, inl, inr}
 use lib.ListN.{length, take, drop, getD, set, length-set, length-take}
@@ -12,11 +12,12 @@ use lib.Dec.{ltb, eqb}
 use borrow.Author.Tests.{lt-ltb, le-ltb, eq-eqb, ne-eqb, ltb-true, ltb-false, eqb-true, eqb-false}
 use Rattle.sizes.specs.Sizes.{textMax}
 use Rattle.digits.specs.Bytes.{lineFeed}
-use Rattle.text.specs.Cut.{Cut, fresh, feed, feeds, PieceEnd}
+use Rattle.text.specs.Cut.{Cut, fresh, feed, feeds, pieces, rest, PieceEnd}
 use Rattle.text.proofs.Cuts.{feed-sep, feed-held}
+use Rattle.text.proofs.Pieces.{cut-fold}
 use Rattle.faults.specs.declared.Fault.{Fault}
 use Rattle.faults.specs.Words.{faultOf}
-use Rattle.reading.specs.Lines.{State, Part, Answer, step, opened, more, closed, ended, read}
+use Rattle.reading.specs.Lines.{State, Part, step, begin, opened, more, closed, read, joinedParts}
 use Rattle.reading.specs.Places.{lineEnd}
 use Rattle.reading.proofs.Ends.{end-is}
 use Rattle.reading.proofs.Parts.{more-append, more-none, take-put}
@@ -28,7 +29,7 @@ use Rattle.next_line.specs.declared.Read.{Read}
 use Rattle.job_parts.specs.declared.Parts.{Parts}
 use Rattle.next_line.specs.State.{kindOf, lineIn, jobOf, stateOf, lineTaken}
 use Rattle.job_parts.specs.Limits.{sizeMax, fits}
-use Rattle.job_parts.specs.Parts.{begun, tooLong, byteTaken, bytesTaken, whole, endOf}
+use Rattle.job_parts.specs.Parts.{begun, byteTaken, bytesTaken, partTaken, whole, endOf, given}
 use Rattle.next_line.proofs.Backs.{state-back}
 use Rattle.job_parts.proofs.Fits.{Fits, fits-has}
 use Rattle.job_parts.proofs.Takes.{byte-over, byte-line, byte-held, bytes-fit}
@@ -231,3 +232,46 @@ text-fits t = fits-has (bytesTaken begun t) (bytes-fit t begun begun-fits)
 pub text-whole : (t : List ℕ) → endOf (bytesTaken begun t) ≡ readJob t
 unfolding endOf readJob read
 text-whole t = rw (text-fits t) (like-whole (like-bytes t like-begun))
+
+-- what is carried then
+module _ (t : List ℕ) (few : length t ≤ textMax) where
+  same : Same (bytesTaken begun t) (more jobForm (opened jobForm) t)
+  unfolding more opened
+  same = go (like-bytes t like-begun)
+    where
+      go : Like (bytesTaken begun t) (more jobForm (opened jobForm) t)
+          → Same (bytesTaken begun t) (more jobForm (opened jobForm) t)
+      go (inl s) = s
+      go (inr o) = absurd (omega (arith, o .over, few))
+
+  cut : more jobForm (opened jobForm) t .cut
+      ≡ record { st = foldl (step jobForm) (begin jobForm) (pieces lineFeed t); held = rest lineFeed t }
+  unfolding more opened
+  cut = cut-fold (step jobForm) lineFeed (begin jobForm) t
+
+  pub held-line : take (bytesTaken begun t .held) (bytesTaken begun t .bytes) ≡ rest lineFeed t
+  held-line = sym (same .line) ∙ ap (λ (c : Cut (State Fault JobLine Job)). c .held) cut
+
+  pub read-lines : stateOf (bytesTaken begun t .read) ≡ foldl (step jobForm) (begin jobForm) (pieces lineFeed t)
+  read-lines = sym (same .state) ∙ ap (λ (c : Cut (State Fault JobLine Job)). c .st) cut
+
+-- ---- part after part
+
+bytes-none : (p : Parts) → p ≡ bytesTaken p []
+unfolding bytesTaken
+bytes-none p = refl
+
+pub bytes-append : (p : Parts) (a b : List ℕ) → bytesTaken (bytesTaken p a) b ≡ bytesTaken p (a ++ b)
+unfolding bytesTaken
+bytes-append p a b = sym (foldl-append byteTaken p a b)
+
+given-from : (ps : List (List ℕ)) (p : Parts) → Fits p
+    → foldl (λ q part. partTaken q part .parts) p ps ≡ bytesTaken p (joinedParts ps)
+unfolding joinedParts partTaken
+given-from [] p f = bytes-none p
+given-from (part ∷ ps) p f =
+    rw (fits-has p f) (given-from ps (bytesTaken p part) (bytes-fit part p f) ∙ bytes-append p part (joinedParts ps))
+
+pub given-all : (ps : List (List ℕ)) → given ps ≡ bytesTaken begun (joinedParts ps)
+unfolding given
+given-all ps = given-from ps begun begun-fits

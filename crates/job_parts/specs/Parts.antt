@@ -53,3 +53,7 @@ whole p =
 
 unfoldable pub endOf : Parts → JobRead
 endOf p = cond (fits p) (whole p) (refusedWith beyondLimits)
+
+-- what is carried after these parts
+unfoldable pub given : List (List ℕ) → Parts
+given ps = foldl (λ p part. partTaken p part .parts) begun ps

@@ -14,13 +14,9 @@ use Rattle.digits.specs.Bytes.{lineFeed}
 use Rattle.text.specs.Cut.{Cut, fresh, feed, feeds}
 use Rattle.text.proofs.Cuts.{feed-sep, feed-held, feeds-cons}
 use Rattle.text.proofs.Pieces.{feeds-append}
-use Rattle.reading.specs.Lines.{Form, State, Answer, Part, step, opened, more, closed, read}
+use Rattle.reading.specs.Lines.{Form, State, Answer, Part, step, opened, more, closed, read, joinedParts}
 use Rattle.reading.specs.Refused.{Decides}
 use Rattle.reading.proofs.Decided.{decided}
-
-unfoldable pub joinedParts : List (List ℕ) → List ℕ
-joinedParts [] = []
-joinedParts (p ∷ ps) = p ++ joinedParts ps
 
 module _ {F L X : Type 0} (g : Form F L X) where
   abbrev partOf : Cut (State F L X) → ℕ → Part F L X

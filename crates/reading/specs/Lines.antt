@@ -3,7 +3,7 @@
 -- F are the faults, L the kinds of lines, X the values.
 use Prim.Native.Nat.{ℕ, _+_}
 use mathlib.Core.Path.{_≡_}
-use mathlib.Core.List.{List, foldl}
+use mathlib.Core.List.{List, [], _∷_, _++_, foldl}
 use mathlib.Core.Bool.{Bool, cond, _&&_}
 use lib.ListN.{length}
 use lib.Dec.{eqb, ltb}
@@ -90,3 +90,8 @@ module _ {F L X : Type 0} (g : Form F L X) where
 -- "Lines end in one LF, the last too."
 abbrev pub bytes : List (List ℕ) → List ℕ
 bytes ls = endEach lineFeed ls
+
+-- parts of a text, one after another
+unfoldable pub joinedParts : List (List ℕ) → List ℕ
+joinedParts [] = []
+joinedParts (p ∷ ps) = p ++ joinedParts ps
