@@ -1,5 +1,5 @@
 -- "Its answer, fault number and line must be those of the whole text read at once, wherever the cuts fall."
-use Prim.Native.Nat.{ℕ, zero, suc, _+_, _-_, _≤_, _<_}
+use Prim.Native.Nat.{ℕ, zero, suc, _+_, _-_, _≤_, _<_, min}
 use native.Mathlib.Omega.{arith}
 use native.Mathlib.Numerals.{add-one}
 use mathlib.Core.Path.{_≡_, refl, sym, ap, ap₂, _∙_}
@@ -254,6 +254,17 @@ module _ (t : List ℕ) (few : length t ≤ textMax) where
 
   pub read-lines : stateOf (bytesTaken begun t .read) ≡ foldl (step jobForm) (begin jobForm) (pieces lineFeed t)
   read-lines = sym (same .state) ∙ ap (λ (c : Cut (State Fault JobLine Job)). c .st) cut
+
+-- the count stops one over the limit
+pub size-counted : (t : List ℕ) → bytesTaken begun t .size ≡ min (length t) sizeMax
+size-counted t = go (like-bytes t like-begun)
+  where
+    come : more jobForm (opened jobForm) t .size ≡ length t
+    come = unfold more in (unfold opened in (omega arith))
+
+    go : Like (bytesTaken begun t) (more jobForm (opened jobForm) t) → bytesTaken begun t .size ≡ min (length t) sizeMax
+    go (inl s) = omega (arith, s .few, s .size, come)
+    go (inr o) = omega (arith, o .full, o .over, come)
 
 -- ---- part after part
 

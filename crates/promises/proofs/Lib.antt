@@ -16,3 +16,5 @@ pub mod Examples
 pub mod ByTwo
 pub mod RequestP7
 pub mod RequestP2
+pub mod InParts
+pub mod RequestP1
