@@ -3,3 +3,4 @@ pub mod Longs
 pub mod Words
 pub mod Lists
 pub mod Boxes
+pub mod Lengths
