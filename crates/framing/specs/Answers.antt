@@ -39,11 +39,12 @@ toldText w = decideText (toldAsked w .n) (toldAsked w .x) (toldAsked w .k)
 
 -- ---- the answers to the words w and the text t
 
--- `solve` answers a job by its result, `job` and `result` write the text again, `image` shows K, `decide` what X and K
--- decide
+-- `solve` answers a job by its result, `job` and `result` write the text again, `parts` as `job` does, `image` shows K,
+-- `decide` what X and K decide
 unfoldable pub statusOf : Op → List ℕ → List ℕ → Status
 statusOf Op.Solve w t = solveStatus t
 statusOf Op.Job w t = jobStatus t
+statusOf Op.Parts w t = jobStatus t
 statusOf Op.Result w t = resultStatus t
 statusOf Op.Image w t = ownStatus t
 statusOf Op.ImageIn w t = boxStatus t (boxAsked w .ends)
@@ -52,6 +53,7 @@ statusOf Op.Decide w t = toldStatus w
 unfoldable pub textOf : Op → List ℕ → List ℕ → List ℕ
 textOf Op.Solve w t = solveText t
 textOf Op.Job w t = jobText t
+textOf Op.Parts w t = jobText t
 textOf Op.Result w t = resultText t
 textOf Op.Image w t = ownImage t
 textOf Op.ImageIn w t = boxImage t (boxAsked w .ends)

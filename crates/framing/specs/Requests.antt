@@ -9,6 +9,7 @@ use lib.Dec.{eqb}
 use Rattle.text.specs.Keys.{sameBytes}
 use Rattle.arguments.specs.Counts.{countBy}
 use Rattle.arguments.specs.Words.{space, before, behind}
+use Rattle.arguments.specs.Lengths.{areLengths}
 use Rattle.arguments.specs.Boxes.{boxedBy, toldBy}
 use Rattle.arguments.specs.declared.counts.Counted.{Counted}
 use Rattle.framing.specs.declared.requests.Op.{Op}
@@ -26,6 +27,10 @@ jobWord = 106 ∷ 111 ∷ 98 ∷ []
 -- `result`
 abbrev pub resultWord : List ℕ
 resultWord = 114 ∷ 101 ∷ 115 ∷ 117 ∷ 108 ∷ 116 ∷ []
+
+-- `parts`
+abbrev pub partsWord : List ℕ
+partsWord = 112 ∷ 97 ∷ 114 ∷ 116 ∷ 115 ∷ []
 
 -- `image`
 abbrev pub imageWord : List ℕ
@@ -47,12 +52,13 @@ plainOf w =
 unfoldable pub namedIf : Bool → Op → Named
 namedIf good op = cond good (Named.Is op) Named.Unknown
 
--- those with arguments: `image LO HI`, `decide N LO HI KLO KHI`
+-- those with arguments: `parts L1,L2,..`, `image LO HI`, `decide N LO HI KLO KHI`
 unfoldable pub arguedOf : List ℕ → List ℕ → Named
 arguedOf first rest =
-    cond (sameBytes imageWord first) (namedIf (boxedBy rest .good) Op.ImageIn)
+    cond (sameBytes partsWord first) (namedIf (areLengths rest) Op.Parts)
+    (cond (sameBytes imageWord first) (namedIf (boxedBy rest .good) Op.ImageIn)
     (cond (sameBytes decideWord first) (namedIf (toldBy rest .good) Op.Decide)
-    Named.Unknown)
+    Named.Unknown))
 
 unfoldable pub orNamed : Named → Named → Named
 orNamed (Named.Is op) next = Named.Is op
@@ -66,6 +72,7 @@ operationOf w = orNamed (plainOf w) (arguedOf (before space w) (behind space w))
 unfoldable pub takesText : Op → ℕ → Bool
 takesText Op.Solve n = true
 takesText Op.Job n = true
+takesText Op.Parts n = true
 takesText Op.Result n = true
 takesText Op.Image n = true
 takesText Op.ImageIn n = true

@@ -5,15 +5,18 @@ ghost use lib.ListN.{length};
 ghost use Rattle.faults.specs.declared.Status.{Status};
 ghost use Rattle.writing.specs.Wrote.{placeMax, Wrote};
 ghost use Rattle.faults.specs.Answer.{Leaves};
+ghost use Rattle.desk.specs.Desk.{jobStatus, jobText};
 ghost use Rattle.step_text.specs.Texts.{boxStatus, boxImage};
 ghost use Rattle.framing.specs.Answers.{boxAsked, toldAsked, toldStatus, toldText, statusOf, textOf};
 ghost use Rattle.framing.specs.Answers.{roomMax, faultBytes, lineMax, Tells, Puts};
+use crate::parts::hand_over;
 use crate::requests::Op;
 use arguments::Boxed;
 use arguments::Told;
 use arguments::box_of;
 use arguments::told_of;
 use arguments::words::first_word;
+use desk::parts::end_job;
 use faults::Fault;
 use faults::Status;
 use faults::Written;
@@ -61,6 +64,17 @@ fn reply_decide(words: &[u8], out: &mut [u8]) -> Written
     step_text::decide(told.n, x, k, out)
 }
 
+// `parts L1,L2,..` answers as `job` does.
+fn reply_parts(words: &[u8], text: &[u8], out: &mut [u8]) -> Written
+    ensures { λ a. ⌜ Leaves (jobStatus (now (text .entry))) (jobText (now (text .entry))) (now (out .entry))
+        (now (out .exit)) a ⌝ }
+{
+    let word = first_word(words);
+    let next = word.next;
+    let p = hand_over(&words[next..], text);
+    end_job(p, out)
+}
+
 // The words of a request say what is asked, with its arguments.
 pub fn reply(op: Op, words: &[u8], text: &[u8], out: &mut [u8]) -> Written
     ensures { λ a. ⌜ Leaves (statusOf op (now (words .entry)) (now (text .entry)))
@@ -69,6 +83,7 @@ pub fn reply(op: Op, words: &[u8], text: &[u8], out: &mut [u8]) -> Written
     match op {
         Op::Solve => desk::solve(text, out),
         Op::Job => desk::rewrite_job(text, out),
+        Op::Parts => reply_parts(words, text, out),
         Op::Result => desk::rewrite_result(text, out),
         Op::Image => step_text::image(text, out),
         Op::ImageIn => reply_image(words, text, out),

@@ -2,6 +2,7 @@
 // answer is a line with its length, then its bytes.
 pub mod answers;
 pub mod packets;
+mod parts;
 pub mod requests;
 
 pub use answers::ROOM;

@@ -4,6 +4,7 @@ ghost use Rattle.framing.specs.declared.requests.Named.{Named};
 ghost use Rattle.framing.specs.Requests.{plainOf, namedIf, arguedOf, operationOf};
 ghost use Rattle.framing.specs.Requests.{takesText, asked, AfterSpace, requestOf};
 use arguments::Counted;
+use arguments::are_lengths;
 use arguments::box_of;
 use arguments::count_of;
 use arguments::told_of;
@@ -13,6 +14,7 @@ use text::same_bytes;
 pub enum Op {
     Solve,
     Job,
+    Parts,
     Result,
     Image,
     ImageIn,
@@ -62,6 +64,9 @@ fn named_if(good: bool, op: Op) -> Named
 fn argued(first: &[u8], rest: &[u8]) -> Named
     ensures { λ r. ⌜ r ≡ arguedOf (now (first .entry)) (now (rest .entry)) ⌝ }
 {
+    if same_bytes(first, b"parts") {
+        return named_if(are_lengths(rest), Op::Parts);
+    }
     if same_bytes(first, b"image") {
         let x = box_of(rest);
         return named_if(x.good, Op::ImageIn);
@@ -110,6 +115,7 @@ fn takes(op: Op, length: u64) -> bool
     match op {
         Op::Solve => true,
         Op::Job => true,
+        Op::Parts => true,
         Op::Result => true,
         Op::Image => true,
         Op::ImageIn => true,

@@ -13,6 +13,7 @@ use Rattle.sizes.specs.Sizes.{textMax}
 use Rattle.digits.specs.Bytes.{lineFeed}
 use Rattle.reading.specs.Places.{lineEnd}
 use Rattle.reading.proofs.Ends.{line-end}
+use Rattle.next_line.specs.declared.Read.{Read}
 use Rattle.job_parts.specs.declared.Parts.{Parts}
 use Rattle.next_line.specs.State.{lineTaken}
 use Rattle.job_parts.specs.Limits.{sizeMax}
@@ -90,6 +91,11 @@ unfolding bytesTaken
 bytes-over [] p = refl
 bytes-over (b ∷ bs) p =
     ap (λ (q : Parts). bytesTaken q bs) (byte-over (tooLong p) b (omega arith)) ∙ bytes-over bs p
+
+-- after a bad line no line is read
+pub line-stays : (r : Read) (bytes : List ℕ) → (r .fault ≡ 0 → ⊥) → lineTaken r bytes ≡ r
+unfolding lineTaken
+line-stays r bytes n = rw (ne-eqb (r .fault) 0 n)
 
 -- the LF that has come ends the line
 pub feed-ends : (bytes : List ℕ) (n b : ℕ) → n < length bytes → b ≡ lineFeed

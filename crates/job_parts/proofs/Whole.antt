@@ -32,7 +32,7 @@ use Rattle.job_parts.specs.Limits.{sizeMax, fits}
 use Rattle.job_parts.specs.Parts.{begun, byteTaken, bytesTaken, partTaken, whole, endOf, given}
 use Rattle.next_line.proofs.Backs.{state-back}
 use Rattle.job_parts.proofs.Fits.{Fits, fits-has}
-use Rattle.job_parts.proofs.Takes.{byte-over, byte-line, byte-held, bytes-fit}
+use Rattle.job_parts.proofs.Takes.{byte-over, byte-line, byte-held, bytes-fit, line-stays}
 
 -- ---- the line that is held
 
@@ -79,15 +79,11 @@ bad-state : (r : Read) → eqb (r .fault) 0 ≡ false → stateOf r ≡ State.ba
 unfolding stateOf
 bad-state r e = rw e
 
-stays : (r : Read) (bytes : List ℕ) → eqb (r .fault) 0 ≡ false → lineTaken r bytes ≡ r
-unfolding lineTaken
-stays r bytes e = rw e
-
 bad-line : (r : Read) (bytes : List ℕ) → eqb (r .fault) 0 ≡ false
     → stateOf (lineTaken r bytes) ≡ step jobForm (stateOf r) (lineOf bytes 0)
 unfolding step
 bad-line r bytes e =
-    ap stateOf (stays r bytes e)
+    ap stateOf (line-stays r bytes (eqb-false (r .fault) 0 e))
     ∙ bad-state r e
     ∙ sym (ap (λ (s : State Fault JobLine Job). step jobForm s (lineOf bytes 0)) (bad-state r e))
 

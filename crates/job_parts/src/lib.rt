@@ -84,8 +84,10 @@ fn take_bytes(p: Parts, part: &[u8]) -> Parts
         size += 1;
         i += 1;
         if b == b'\n' {
-            read = line_taken(read, &bytes);
             held = 0;
+            if read.fault == 0 {
+                read = line_taken(read, &bytes);
+            }
         } else {
             held += 1;
         }

@@ -182,13 +182,12 @@ fn steps_taken(r: Read, number: u64, line: &[u8; TEXT]) -> Read
     s
 }
 
+// The next line, where none was bad.
 pub fn line_taken(r: Read, line: &[u8; TEXT]) -> Read
     requires { ⌜ (lineEnd (now line) 0 < length (now line)) × (readFits r ≡ true) ⌝ }
+    requires { ⌜ r .fault ≡ 0 ⌝ }
     ensures { λ s. ⌜ s ≡ lineTaken r (now (line .entry)) ⌝ }
 {
-    if r.fault != 0 {
-        return r;
-    }
     let k = line_in(r.next);
     let number = job_line_number(k, head_of(r));
     match k {

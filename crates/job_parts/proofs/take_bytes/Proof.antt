@@ -8,7 +8,8 @@ use Rattle.sizes.specs.Sizes.{textMax}
 use Rattle.job_parts.specs.Parts.{bytesTaken}
 use Rattle.next_line.proofs.Fits.{fits-read}
 use Rattle.job_parts.proofs.Fits.{has-fits}
-use Rattle.job_parts.proofs.Takes.{Going, going-over, going-line, going-byte, going-done, feed-ends}
+use Rattle.job_parts.proofs.Takes.{Going, going-over, going-line, going-byte, going-done}
+use Rattle.job_parts.proofs.Takes.{line-stays, feed-ends}
 use Rattle.job_parts.proofs.take_bytes.Statement.{statement}
 use Rattle.job_parts.proofs.take_bytes.Tie as tie
 
@@ -25,15 +26,8 @@ loop-holds : tie.Need-loop-holds Inv-loop μ-loop
 loop-holds c =
     (search needs, record { inside = omega arith; fit = has-fits _ (c .before .before .before .pre); same = refl })
 
-add-t11 : tie.Need-add-t11 Inv-loop μ-loop
-add-t11 c = search needs
-
 returns : tie.Need-returns Inv-loop μ-loop
-returns c =
-    going-over _ _ (c .before .before .loop .inv .1) (c .before .loop-test .taken) (c .if1 .taken)
-
-shared-slice-read-b : tie.Need-shared-slice-read-b Inv-loop μ-loop
-shared-slice-read-b c = omega (arith, c .before .before .loop-test .taken)
+returns c = going-over _ _ (c .before .before .loop .inv .1) (c .before .loop-test .taken) (c .if1 .taken)
 
 array-write-bytes : tie.Need-array-write-bytes Inv-loop μ-loop
 array-write-bytes c = omega (arith, c .before .if1 .left, c .before .before .before .loop .inv .1 .fit .come)
@@ -41,39 +35,36 @@ array-write-bytes c = omega (arith, c .before .if1 .left, c .before .before .bef
 add-size : tie.Need-add-size Inv-loop μ-loop
 add-size c = omega (arith, c .before .if1 .left)
 
-add-i : tie.Need-add-i Inv-loop μ-loop
-add-i c = search needs
-
 line-taken-requires : tie.Need-line-taken-requires Inv-loop μ-loop
 line-taken-requires c κs =
-    let loop = c .before .before .before .before .before in
+    let loop = c .before .before .before .before .before .before .before in
     let start = loop .before .before .before .before in
-    let long : length (loop .loop .bytes) ≡ textMax = search needs in (
-      feed-ends (loop .loop .bytes) (loop .loop .held) (getD (start .args .part .now) (loop .loop .i) 0)
-          (rw (loop .loop .inv .0) (omega (arith, c .before .before .before .if1 .left, loop .loop .inv .1 .fit .come))) (c .before .if2 .taken),
-      fits-read _ (loop .loop .inv .1 .fit .read),
-    )
-
-loop-less : tie.Need-loop-less Inv-loop μ-loop
-loop-less c = omega (arith, c .before .before .before .before .before .loop-test .taken)
+    let held = feed-ends (loop .loop .bytes) (loop .loop .held) (getD (start .args .part .now) (loop .loop .i) 0)
+    (rw (loop .loop .inv .0) (omega (arith, c .before .before .before .before .before .if1 .left, loop .loop .inv .1 .fit .come)))
+    (c .before .before .before .if2 .taken) in
+    ((held, fits-read _ (loop .loop .inv .1 .fit .read)), c .before .if3 .taken)
 
 loop-again : tie.Need-loop-again Inv-loop μ-loop
 loop-again c =
-    let loop = c .before .before .before .before .before .before in
+    let loop = c .before .before .before .before .before .before .before .before in
     rw (c .line-taken .ensures) (
       rw (length-set _ _ _) (loop .loop .inv .0),
-      going-line _ _ (loop .loop .inv .1) (c .before .before .before .before .before .loop-test .taken)
-          (c .before .before .before .before .if1 .left) (c .before .before .if2 .taken),
+      going-line _ _ (loop .loop .inv .1) (c .before .before .before .before .before .before .before .loop-test .taken) (c .before .before .before .before .before .before .if1 .left) (c .before .before .before .before .if2 .taken),
+    )
+
+loop-again-2 : tie.Need-loop-again-2 Inv-loop μ-loop
+loop-again-2 c =
+    let loop = c .before .before .before .before .before .before in (
+      rw (length-set _ _ _) (loop .loop .inv .0),
+      rw (line-stays (loop .loop .read) _ (c .if3 .left)) at
+          (going-line _ _ (loop .loop .inv .1) (c .before .before .before .before .before .loop-test .taken) (c .before .before .before .before .if1 .left) (c .before .before .if2 .taken)),
     )
 
 add-held : tie.Need-add-held Inv-loop μ-loop
 add-held c = omega (arith, c .before .before .if1 .left, c .before .before .before .before .loop .inv .1 .fit .come)
 
-loop-less-2 : tie.Need-loop-less-2 Inv-loop μ-loop
-loop-less-2 c = omega (arith, c .before .before .before .loop-test .taken)
-
-loop-again-2 : tie.Need-loop-again-2 Inv-loop μ-loop
-loop-again-2 c =
+loop-again-3 : tie.Need-loop-again-3 Inv-loop μ-loop
+loop-again-3 c =
     let loop = c .before .before .before .before in (
       rw (length-set _ _ _) (loop .loop .inv .0),
       going-byte _ _ (loop .loop .inv .1) (c .before .before .before .loop-test .taken) (c .before .before .if1 .left)
@@ -86,20 +77,8 @@ returns-2 c = going-done _ _ (c .before .loop .inv .1) (c .loop-test .left)
 pub take-bytes-spec : {M : Type 1} → statement M
 take-bytes-spec =
     tie.close
-    (tie.spec
-    Inv-loop
-    μ-loop
-    loop-holds
-    add-t11
-    returns
-    shared-slice-read-b
-    array-write-bytes
-    add-size
-    add-i
-    line-taken-requires
-    loop-less
-    loop-again
-    add-held
-    loop-less-2
-    loop-again-2
-    returns-2)
+    (tie.spec Inv-loop μ-loop loop-holds (λ c. search needs) returns
+    (λ c. omega (arith, c .before .before .loop-test .taken)) array-write-bytes add-size (λ c. search needs)
+    line-taken-requires (λ c. omega (arith, c .before .before .before .before .before .before .before .loop-test .taken)) loop-again
+    (λ c. omega (arith, c .before .before .before .before .before .loop-test .taken)) loop-again-2 add-held
+    (λ c. omega (arith, c .before .before .before .loop-test .taken)) loop-again-3 returns-2)

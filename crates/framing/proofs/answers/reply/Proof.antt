@@ -14,25 +14,25 @@ returns-2 c = rw (c .before .before .before .before .enum-told2 .given .1) (c .b
 
 returns-3 : tie.Need-returns-3
 unfolding statusOf textOf
-returns-3 c = rw (c .before .before .before .before .enum-told3 .given .1) (c .before .before .rewrite-result .ensures)
+returns-3 c = rw (c .before .before .before .before .enum-told3 .given .1) (c .before .before .reply-parts .ensures)
 
 returns-4 : tie.Need-returns-4
 unfolding statusOf textOf
-returns-4 c = rw (c .before .before .before .before .enum-told4 .given .1) (c .before .before .image .ensures)
+returns-4 c = rw (c .before .before .before .before .enum-told4 .given .1) (c .before .before .rewrite-result .ensures)
 
 returns-5 : tie.Need-returns-5
 unfolding statusOf textOf
-returns-5 c = rw (c .before .before .before .before .enum-told5 .given .1) (c .before .before .reply-image .ensures)
+returns-5 c = rw (c .before .before .before .before .enum-told5 .given .1) (c .before .before .image .ensures)
 
 returns-6 : tie.Need-returns-6
 unfolding statusOf textOf
-returns-6 c = rw (c .before .before .before .before .enum-told6 .given .1) (c .before .before .reply-decide .ensures)
+returns-6 c = rw (c .before .before .before .before .enum-told6 .given .1) (c .before .before .reply-image .ensures)
+
+returns-7 : tie.Need-returns-7
+unfolding statusOf textOf
+returns-7 c = rw (c .before .before .before .before .enum-told7 .given .1) (c .before .before .reply-decide .ensures)
 
 pub reply-spec : {M : Type 1} → statement M
 reply-spec =
     tie.close
-    (tie.spec (λ c. search needs) (λ c κs. search needs) (λ c. search needs) (λ c κs. search needs) (λ c. search needs)
-    (λ c κs. search needs) (λ c. search needs) (λ c κs. search needs) (λ c. search needs) (λ c κs. search needs)
-    (λ c. search needs) (λ c κs. search needs) (λ c. search needs) returns (λ c. search needs)
-    returns-2 (λ c. search needs) returns-3 (λ c. search needs) returns-4 (λ c. search needs) returns-5
-    (λ c. search needs) returns-6)
+    (tie.spec (λ c. search needs) (λ c κs. search needs) (λ c. search needs) (λ c κs. search needs) (λ c. search needs) (λ c κs. search needs) (λ c. search needs) (λ c κs. search needs) (λ c. search needs) (λ c κs. search needs) (λ c. search needs) (λ c κs. search needs) (λ c. search needs) (λ c κs. search needs) (λ c. search needs) returns (λ c. search needs) returns-2 (λ c. search needs) returns-3 (λ c. search needs) returns-4 (λ c. search needs) returns-5 (λ c. search needs) returns-6 (λ c. search needs) returns-7)

@@ -28,8 +28,12 @@ returns-6 : tie.Need-returns-6
 unfolding takesText
 returns-6 c = rw (c .enum-told6 .given .1)
 
+returns-7 : tie.Need-returns-7
+unfolding takesText
+returns-7 c = rw (c .enum-told7 .given .1)
+
 pub takes-spec : {M : Type 1} → statement M
 takes-spec =
     tie.close
     (tie.spec (λ c. search needs) (λ c. search needs) (λ c. search needs) (λ c. search needs) (λ c. search needs)
-    (λ c. search needs) returns returns-2 returns-3 returns-4 returns-5 returns-6)
+    (λ c. search needs) (λ c. search needs) returns returns-2 returns-3 returns-4 returns-5 returns-6 returns-7)
