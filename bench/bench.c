@@ -7,6 +7,7 @@
 #include <string.h>
 #include <time.h>
 
+#include "in_parts.h"
 #include "jobs.h"
 #include "peer.h"
 #include "same.h"
@@ -23,10 +24,11 @@ static const double round_seconds = 0.008;
 typedef floodrafter_answer solve_entry(const uint8_t *, size_t, uint8_t *, size_t);
 typedef floodrafter_answer check_entry(const uint8_t *, size_t);
 
-static solve_entry *const solve_entries[SOLVERS] = {floodrafter_solve, peer_solve};
-static check_entry *const check_entries[SOLVERS] = {floodrafter_check_job, peer_check_job};
+enum entry { CHECK, CHECK_PARTS, SOLVE };
 
-enum entry { SOLVE, CHECK };
+static check_entry *const check_entries[][SOLVERS] = {
+    [CHECK] = {floodrafter_check_job, peer_check_job}, [CHECK_PARTS] = {library_in_parts, peer_in_parts}};
+static solve_entry *const solve_entries[SOLVERS] = {floodrafter_solve, peer_solve};
 
 /* Seconds of one call, or of one step, of each solver. */
 struct times {
@@ -49,7 +51,7 @@ static double seconds_of(int solver, enum entry entry, const struct text *text, 
         if (entry == SOLVE)
             solve_entries[solver](text->bytes, text->len, out, sizeof out);
         else
-            check_entries[solver](text->bytes, text->len);
+            check_entries[entry][solver](text->bytes, text->len);
     }
     return now() - start;
 }
@@ -177,6 +179,34 @@ static void print_worst(const struct worst *worst)
     }
 }
 
+/* The sorts whose texts are read in parts too: 1 unknown, and 4 with 16 terms. bench/count has the same. */
+static const size_t sorts_in_parts[] = {0, 3};
+
+static void print_in_parts(const struct sort *sort)
+{
+    struct text text;
+    write_job(sort, SOON, 8, &text);
+    struct times whole = measure(CHECK, &text), parts = measure(CHECK_PARTS, &text);
+    print_name(sort);
+    printf(" | %5zu", text.len);
+    for (int solver = 0; solver < SOLVERS; solver++) {
+        double at_once = whole.of[solver], in_parts = parts.of[solver];
+        printf(" | %8.0f %8.0f %6.2f", 1e9 * at_once, 1e9 * in_parts, in_parts / at_once);
+    }
+    printf(" | %7.2f %8.2f\n", ratio(whole), ratio(parts));
+    fflush(stdout);
+}
+
+static void print_all_in_parts(void)
+{
+    printf("\nReading a text at once and in parts of %d bytes, in nanoseconds; a ratio is in parts over at once.\n", PART);
+    printf("%-19s | %5s | %-24s | %-24s | %s\n", "", "", "library", "peer", "library over peer");
+    printf("%-19s | %5s | %8s %8s %6s | %8s %8s %6s | %7s %8s\n", "job", "bytes", "at once", "in parts", "ratio",
+           "at once", "in parts", "ratio", "at once", "in parts");
+    for (size_t s = 0; s < sizeof sorts_in_parts / sizeof sorts_in_parts[0]; s++)
+        print_in_parts(&sorts[sorts_in_parts[s]]);
+}
+
 /* Terms that make the longest job's text 2,047 bytes long. */
 enum { MORE_TERMS = 63 };
 
@@ -220,8 +250,9 @@ static int do_work(const char *solver_name, const char *work, size_t sort, int t
         write_job(&sorts[sort], LATE, times, &text);
         seconds_of(solver, SOLVE, &text, 1);
     } else {
+        enum entry entry = strcmp(work, "solve") == 0 ? SOLVE : strcmp(work, "parts") == 0 ? CHECK_PARTS : CHECK;
         write_job(&sorts[sort], SOON, 8, &text);
-        seconds_of(solver, strcmp(work, "solve") == 0 ? SOLVE : CHECK, &text, times);
+        seconds_of(solver, entry, &text, times);
     }
     return 0;
 }
@@ -247,5 +278,6 @@ int main(int count, char **words)
     print_longest("longest job", 0, &worst[UNKNOWNS]);
     print_longest("long text, fault 6", MORE_TERMS, &worst[UNKNOWNS]);
     print_worst(worst);
+    print_all_in_parts();
     return 0;
 }

@@ -3,7 +3,9 @@
 #include <stdio.h>
 #include <string.h>
 
+#include "in_parts.h"
 #include "peer.h"
+#include "peer_parts.h"
 #include "requests.h"
 
 /* The room behind the lent buffer shows a byte written too far. */
@@ -34,16 +36,27 @@ static void tell(const char *entry, const uint8_t *text, size_t text_len, floodr
     tell_text(text, text_len);
 }
 
-/* Both solve into a buffer of out_len bytes; every byte of it is held against the other's, those beyond the answer too. */
+static void make_old(struct solved *s)
+{
+    memset(s->out, OLD_BYTE, sizeof s->out);
+}
+
+/* Every byte of a buffer is held against the other's, those beyond the answer too. */
+static bool equal_solved(const struct solved *a, const struct solved *b)
+{
+    return equal(a->answer, b->answer) && memcmp(a->out, b->out, sizeof a->out) == 0;
+}
+
+/* Both solve into a buffer of out_len bytes. */
 static bool same_solved(const uint8_t *text, size_t text_len, size_t out_len, floodrafter_answer *answer)
 {
     static struct solved library, peer;
-    memset(library.out, OLD_BYTE, sizeof library.out);
-    memset(peer.out, OLD_BYTE, sizeof peer.out);
+    make_old(&library);
+    make_old(&peer);
     library.answer = floodrafter_solve(text, text_len, library.out, out_len);
     peer.answer = peer_solve(text, text_len, peer.out, out_len);
     *answer = peer.answer;
-    if (equal(library.answer, peer.answer) && memcmp(library.out, peer.out, sizeof library.out) == 0)
+    if (equal_solved(&library, &peer))
         return true;
     printf("buffer of %zu bytes, ", out_len);
     tell("solve", text, text_len, library.answer, peer.answer);
@@ -113,8 +126,64 @@ static bool same_step(const uint8_t *text, size_t text_len)
     return same_image(text, text_len, x.box) && same_decided(x.n, x.box, peer_image(text, text_len, x.box).box);
 }
 
+/* What is answered at the end of a text. */
+struct ended {
+    floodrafter_answer check;
+    struct solved solved;
+};
+
+static struct ended end_library(floodrafter_parts parts)
+{
+    struct ended e = {.check = floodrafter_end_check(parts)};
+    make_old(&e.solved);
+    e.solved.answer = floodrafter_end_solve(parts, e.solved.out, FLOODRAFTER_TEXT_MAX);
+    return e;
+}
+
+static struct ended end_peer(struct peer_parts *parts)
+{
+    struct ended e = {.check = peer_end_check(parts)};
+    make_old(&e.solved);
+    e.solved.answer = peer_end_solve(parts, e.solved.out, FLOODRAFTER_TEXT_MAX);
+    return e;
+}
+
+static struct ended end_whole(struct bytes text)
+{
+    struct ended e = {.check = peer_check_job(text.at, text.len)};
+    make_old(&e.solved);
+    e.solved.answer = peer_solve(text.at, text.len, e.solved.out, FLOODRAFTER_TEXT_MAX);
+    return e;
+}
+
+static bool equal_ended(const struct ended *a, const struct ended *b)
+{
+    return equal(a->check, b->check) && equal_solved(&a->solved, &b->solved);
+}
+
+/* Both take the same parts of a text, and answer at its end as the peer answers to the whole text. */
+static bool same_in_parts(struct bytes text, struct cuts cuts)
+{
+    static struct peer_parts peer_parts;
+    floodrafter_parts parts = floodrafter_begin();
+    struct bytes part;
+    peer_begin(&peer_parts);
+    while (next_part(&cuts, &part)) {
+        parts = floodrafter_take(parts, part.at, part.len).parts;
+        peer_take(&peer_parts, part.at, part.len);
+    }
+    struct ended library = end_library(parts), peer = end_peer(&peer_parts), whole = end_whole(text);
+    if (equal_ended(&library, &whole) && equal_ended(&peer, &whole))
+        return true;
+    printf("in parts, or not as the whole text: ");
+    tell("end_check", text.at, text.len, library.check, peer.check);
+    tell("end_solve", text.at, text.len, library.solved.answer, peer.solved.answer);
+    return false;
+}
+
 bool same_answers(const uint8_t *text, size_t text_len)
 {
+    struct bytes all = {text, text_len};
     floodrafter_answer library = floodrafter_check_job(text, text_len);
     floodrafter_answer peer = peer_check_job(text, text_len);
     if (!equal(library, peer)) {
@@ -124,17 +193,21 @@ bool same_answers(const uint8_t *text, size_t text_len)
     floodrafter_answer answer, again;
     if (!same_step(text, text_len) || !same_solved(text, text_len, FLOODRAFTER_TEXT_MAX, &answer))
         return false;
+    if (!same_in_parts(all, (struct cuts){.rest = all, .after = PART}))
+        return false;
     /* The shortest buffer that is enough, and one byte less. */
     return answer.fault != FLOODRAFTER_DONE ||
            (same_solved(text, text_len, answer.len, &again) && same_solved(text, text_len, answer.len - 1, &again));
 }
 
-/* The text of any request is a job's, or gets a fault as one; the box and the image that stand in the line are held too. */
+/* The text of any request is a job's, or gets a fault as one; the parts, the box and the image that stand in the line
+ * are held too. */
 static bool same_request(const struct request *r)
 {
     if (strcmp(r->word, "decide") == 0)
         return same_decided(r->n, r->x, r->k);
-    return same_answers(r->text.at, r->text.len) && (!r->boxed || same_image(r->text.at, r->text.len, r->x));
+    return same_answers(r->text.at, r->text.len) && (r->lengths == NULL || same_in_parts(r->text, cuts_of(r))) &&
+           (!r->boxed || same_image(r->text.at, r->text.len, r->x));
 }
 
 bool same_answers_in_file(const char *name, size_t *count)

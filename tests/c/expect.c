@@ -26,6 +26,14 @@ bool same(struct bytes b, const void *at, size_t len)
     return b.len == len && memcmp(b.at, at, len) == 0;
 }
 
+bool is_old(const uint8_t *from, size_t len)
+{
+    for (size_t i = 0; i < len; i++)
+        if (from[i] != OLD)
+            return false;
+    return true;
+}
+
 void expect_told(const struct asked *r, uint64_t fault, uint64_t line)
 {
     char told[PRINTED];

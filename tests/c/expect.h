@@ -18,6 +18,11 @@ unsigned long failures(void);
 
 bool same(struct bytes b, const void *at, size_t len);
 
+/* A lent buffer, longer than every answer, and what its bytes are beforehand. */
+enum { ROOM = 2 * FLOODRAFTER_TEXT_MAX, OLD = 0xA5 };
+
+bool is_old(const uint8_t *from, size_t len);
+
 /* The answer expected is this fault: the program tells it in two lines. */
 void expect_told(const struct asked *r, uint64_t fault, uint64_t line);
 

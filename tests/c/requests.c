@@ -43,8 +43,8 @@ static const char *cut_line(struct bytes *from)
     return (const char *)cut(from, (size_t)(end - from->at) + 1).at;
 }
 
-/* How many words the three sorts of lines have. */
-enum { BARE = 2, WITH_BOX = 4, WITH_BOX_AND_IMAGE = 7, WORDS_MAX = WITH_BOX_AND_IMAGE };
+/* How many words the four sorts of lines have. */
+enum { BARE = 2, WITH_LENGTHS = 3, WITH_BOX = 4, WITH_BOX_AND_IMAGE = 7, WORDS_MAX = WITH_BOX_AND_IMAGE };
 
 /* Where the words of a line begin. */
 struct words {
@@ -109,13 +109,15 @@ bool next_request(struct bytes *requests, struct request *r)
     if (requests->len == 0)
         return false;
     struct words w = words_of(cut_line(requests));
-    *r = (struct request){.boxed = w.count > BARE};
+    *r = (struct request){.boxed = w.count >= WITH_BOX};
     if (w.count == WITH_BOX_AND_IMAGE) {
         r->n = read_count(w.at[1]);
         r->x = read_box(w.at[2], w.at[3]);
         r->k = read_box(w.at[4], w.at[5]);
     } else if (w.count == WITH_BOX) {
         r->x = read_box(w.at[1], w.at[2]);
+    } else if (w.count == WITH_LENGTHS) {
+        r->lengths = w.at[1];
     } else if (w.count != BARE) {
         broken("a request has no header");
     }
@@ -127,4 +129,26 @@ bool next_request(struct bytes *requests, struct request *r)
 struct bytes next_answer(struct bytes *answers)
 {
     return cut(answers, strtoul(cut_line(answers), NULL, 10));
+}
+
+struct cuts cuts_of(const struct request *r)
+{
+    return (struct cuts){.rest = r->text, .lengths = r->lengths, .after = SIZE_MAX};
+}
+
+bool next_part(struct cuts *c, struct bytes *part)
+{
+    size_t len = c->after;
+    if (c->lengths != NULL) {
+        /* the greatest there is where the list's is greater */
+        char *end;
+        len = strtoul(c->lengths, &end, 10);
+        if (end == c->lengths || (*end != ',' && *end != ' '))
+            broken("a request has no list where one belongs");
+        c->lengths = *end == ',' ? end + 1 : NULL;
+    } else if (c->rest.len == 0) {
+        return false;
+    }
+    *part = cut(&c->rest, len < c->rest.len ? len : c->rest.len);
+    return true;
 }

@@ -14,11 +14,13 @@ struct bytes {
     size_t len;
 };
 
-/* `OP LENGTH`, `image LO HI LENGTH` or `decide N LO HI KLO KHI LENGTH`. What a line does not name is zero, and so is a place that a list leaves out. */
+/* `OP LENGTH`, `parts L1,L2,.. LENGTH`, `image LO HI LENGTH` or `decide N LO HI KLO KHI LENGTH`. What a line does not
+ * name is zero, and so is a place that a list leaves out. */
 struct request {
     char word[8];
-    bool boxed; /* LO and HI are there */
-    size_t n;   /* SIZE_MAX where the line's number is greater */
+    const char *lengths; /* L1,L2,.. and what follows in the line */
+    bool boxed;          /* LO and HI are there */
+    size_t n;            /* SIZE_MAX where the line's number is greater */
     floodrafter_box x, k;
     struct bytes text;
 };
@@ -30,5 +32,18 @@ struct bytes whole_file(const char *path);
 bool next_request(struct bytes *requests, struct request *r);
 
 struct bytes next_answer(struct bytes *answers);
+
+/* A text that is cut into parts. */
+struct cuts {
+    struct bytes rest;   /* what is left of it */
+    const char *lengths; /* those of the next parts, L1,L2,..; null where none is left */
+    size_t after;        /* the length of each part after them */
+};
+
+/* The parts that a request's line names: one past the end of the text is empty, the rest is the last part. */
+struct cuts cuts_of(const struct request *r);
+
+/* Takes the next part; false where none is left. */
+bool next_part(struct cuts *c, struct bytes *part);
 
 #endif

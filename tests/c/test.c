@@ -1,23 +1,15 @@
 /* The C library on every request of the program's cases: test REQUESTS ANSWERS. Each answer is held to the one of the second program, and each lent
  * buffer to what the header says of it. */
+#include "parts.h"
+#include "states.h"
 #include "steps.h"
 
 #include <stdio.h>
 #include <string.h>
 
-enum { ROOM = 2 * FLOODRAFTER_TEXT_MAX, OLD = 0xA5 };
-
 typedef floodrafter_answer writer(const uint8_t *text, size_t text_len, uint8_t *out, size_t out_len);
 typedef floodrafter_answer checker(const uint8_t *text, size_t text_len);
 typedef size_t explainer(const uint8_t *text, size_t text_len, uint8_t *out, size_t out_len);
-
-static bool is_old(const uint8_t *from, size_t len)
-{
-    for (size_t i = 0; i < len; i++)
-        if (from[i] != OLD)
-            return false;
-    return true;
-}
 
 /* "A fault .. writes nowhere". */
 static void expect_fault(const struct asked *r, floodrafter_answer a, const uint8_t *out)
@@ -94,9 +86,14 @@ static void ask_by_word(const struct asked *r)
         ask(r, floodrafter_solve, floodrafter_check_job, floodrafter_explain_job);
         ask_start(r);
         ask_walk(r);
+        ask_in_parts(r);
     } else if (strcmp(word, "job") == 0) {
         ask(r, floodrafter_rewrite_job, floodrafter_check_job, floodrafter_explain_job);
         ask_start(r);
+        ask_in_parts(r);
+    } else if (strcmp(word, "parts") == 0) {
+        ask(r, floodrafter_rewrite_job, floodrafter_check_job, floodrafter_explain_job);
+        ask_parts(r);
     } else if (strcmp(word, "result") == 0) {
         ask(r, floodrafter_rewrite_result, floodrafter_check_result, floodrafter_explain_result);
     } else if (strcmp(word, "image") == 0) {
@@ -120,6 +117,7 @@ static void expect_limits(void)
     floodrafter_answer pinned = floodrafter_check_job((const uint8_t *)last, strlen(last));
     expect(pinned.fault == FLOODRAFTER_PIN && pinned.line == 4, &limit, "a pin line for the last coordinate is taken");
     expect_step_limits(&limit);
+    expect_states(&limit);
 }
 
 int main(int argc, char **argv)

@@ -1,9 +1,13 @@
-"""What is answered to a request: to its words, as `solve` or `image 0,0 9,9`, and its
-text."""
+"""What is answered to a request: to its words, as `solve`, `parts 3,0,5` or
+`image 0,0 9,9`, and its text."""
 
 from arithmetic import MAX_N, ends_of
+from parts import cut, read_parts
 from steps import decision, decision_text, image_of, image_text
-from texts import Fault, job_text, read_job, read_result, result_text, solve
+from texts import job_text, read_job, read_result, result_text, solve
+from walks import Fault
+
+HEADER = 4_096                 # bytes of a request's line, its line feed among them
 
 
 def places(spelled):
@@ -19,6 +23,8 @@ def reply(operation, words, text):
         return decision_text(*decision(int(n), *map(places, lists)))
     if operation == "result":
         return result_text(read_result(text))
+    if operation == "parts":
+        return job_text(read_parts(cut(text, map(int, words[0].split(",")))))
     job = read_job(text)
     if operation == "solve":
         return result_text(solve(job))
@@ -33,8 +39,8 @@ def reply(operation, words, text):
 
 def answer(request, text):
     """What the product answers: the result text (solve), the same text again (job,
-    result), the image (image), what is decided (decide), both (step), or the two lines
-    `fault=N` and `line=L`."""
+    result, parts), the image (image), what is decided (decide), both (step), or the two
+    lines `fault=N` and `line=L`."""
     operation, *words = request.split(" ")
     try:
         return reply(operation, words, text)

@@ -4,6 +4,8 @@ About half are right texts; the others are damaged ones.  The fixed cases come
 first: the documents' examples and the places their readers get wrong.
 """
 
+import itertools
+
 from answers import answer
 from arithmetic import (Job, KINDS, MARK, MAX_END, MAX_ENTRY, MAX_N, MAX_TERMS, Result,
                         VERDICTS, ends_of)
@@ -11,6 +13,7 @@ from damage import at_limits, damaged, every_spelling, lines_of
 from dice import Dice
 from jobs import (allowance, job_number, largest_job, monomials, random_job,
                   symmetric_job, zero_job)
+from part_cases import fixed_parts, random_part
 from pin_cases import fixed_pins, random_pin
 from step_cases import fixed_steps, random_step
 from texts import job_text, result_text
@@ -73,6 +76,7 @@ def fixed():
         yield "result", text
     yield from fixed_steps()
     yield from fixed_pins()
+    yield from fixed_parts()
 
 
 def random_result(dice):
@@ -108,18 +112,13 @@ def random_case(dice):
     return "job", result_text(random_result(dice))
 
 
-def cases(seed, count):
-    """count requests, the fixed ones first.  Of the others each tenth is a symmetric
-    job, each tenth one of P7's and each tenth one of P2's; these have dice of their own,
-    which leave the stream of the rest as it is."""
+def random_cases(seed):
+    """Requests without end.  Each tenth is a symmetric job, each tenth one of P7's and
+    each tenth one of P2's; these have dice of their own, which leave the stream of the
+    rest as it is."""
     dice, symmetric = Dice(seed), Dice(~seed)
     step, pin = Dice(seed + 2 ** 32), Dice(seed + 2 ** 33)
-    made = 0
-    for case in fixed():
-        if made < count:
-            yield case
-            made += 1
-    for number in range(count - made):
+    for number in itertools.count():
         if number % 10 == 9:
             yield "solve", job_text(symmetric_job(symmetric))
         elif number % 10 == 4:
@@ -128,6 +127,19 @@ def cases(seed, count):
             yield random_pin(pin)
         else:
             yield random_case(dice)
+
+
+def cases(seed, count):
+    """count requests, the fixed ones first.  Of the others each tenth is one of P1's; the
+    rest are as they would be without them."""
+    part, rest = Dice(seed + 2 ** 34), random_cases(seed)
+    made = 0
+    for case in fixed():
+        if made < count:
+            yield case
+            made += 1
+    for number in range(count - made):
+        yield random_part(part) if number % 10 == 2 else next(rest)
 
 
 def write_case(request, text, requests, answers):

@@ -1,4 +1,5 @@
-"""What must hold of every accepted job, tried on random fraction points.
+"""What must hold of every accepted job, tried on random fraction points, and of every
+text that arrives in parts.
 
     claims.py [--seed S] [--count K]
 
@@ -22,6 +23,9 @@
   is the exact Newton image; so X holds at most one zero.
 - Kinds: the built equations equal the formulas of the three kinds at every
   fraction point.
+- Parts (document 02, P1): the answer at the end of all parts of a job text, right or
+  damaged, is that of the whole text read at once; before the end there is none, and no
+  more is held than the line that has not ended and a count, at most one over the limit.
 """
 
 import argparse
@@ -29,12 +33,15 @@ from collections import Counter
 from fractions import Fraction
 
 import arithmetic
-from arithmetic import MARK, MAX_END, MAX_IMAGE, ends_of
+from arithmetic import MARK, MAX_END, MAX_IMAGE, MAX_TEXT, ends_of
 from dice import Dice
 from jobs import pinned_job, random_job, symmetric_job
+from part_cases import random_lengths, random_text
+from parts import Reader, cut
 from step_cases import against
 from steps import decision, image_of
 from texts import read_job, job_text
+from walks import Fault
 from zeros import job_with_zeros
 
 
@@ -218,10 +225,37 @@ def try_job(dice, job, zeros, tried):
         tried[f"zeros: starting boxes with two or more, {sort_of(job)}"] += 1
 
 
+def told(entry, *values):
+    """What an entry answers, or the number and the line of its fault."""
+    try:
+        return entry(*values)
+    except Fault as fault:
+        return fault.number, fault.line
+
+
+def try_parts(dice, tried):
+    """A job text whole and in parts, and what the reader holds after each part."""
+    text, reader, come = random_text(dice), Reader(), b""
+    for part in cut(text, random_lengths(dice, text)):
+        come += part
+        quiet = told(reader.take, part) is None
+        held = b"".join(value for value in vars(reader).values() if isinstance(value, bytes))
+        one_line = held in (b"", come.rpartition(b"\n")[2]) and len(held) <= MAX_TEXT
+        if not (quiet and one_line and reader.count == min(len(come), MAX_TEXT + 1)):
+            raise Breach(f"parts: held or told before the end: {vars(reader)}\n{come}")
+        tried["parts: states on the way"] += 1
+    found, wanted = told(reader.end), told(read_job, text)
+    if found != wanted:
+        raise Breach(f"parts: {found} is not {wanted} of the whole\n{text}")
+    right = isinstance(wanted, arithmetic.Job)
+    tried["parts: right texts" if right else f"parts: texts with fault {wanted[0]}"] += 1
+
+
 def try_claims(seed, count):
-    """count jobs, half of them with known zeros, a quarter symmetric, an eighth pinned;
-    how often each claim was tried.  Raises Breach at the first claim that does not hold."""
-    dice, tried = Dice(seed), Counter()
+    """count jobs, half of them with known zeros, a quarter symmetric, an eighth pinned, and
+    as many texts in parts; how often each claim was tried.  Raises Breach at the first
+    claim that does not hold."""
+    dice, part, tried = Dice(seed), Dice(~seed), Counter()
     makers = [random_job, symmetric_job, pinned_job, symmetric_job]
     for number in range(count):
         if number % 2:
@@ -230,6 +264,7 @@ def try_claims(seed, count):
             job, zeros = makers[number // 2 % 4](dice), []
         claim(read_job(job_text(job)) == job, "accepted", job)
         try_job(dice, job, zeros, tried)
+        try_parts(part, tried)
     return tried
 
 

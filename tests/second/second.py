@@ -16,24 +16,26 @@ import argparse
 import re
 import sys
 
-from answers import answer
+from answers import HEADER, answer
 from arithmetic import MAX_N, MAX_TEXT
 from cases import write_cases
 
 COMMANDS = ("solve", "job", "result", "image", "step")
-HEADER = 4_096                 # bytes of a request's line, its line feed among them
 CHUNK = 65_536
 
 # A number in a request: an optional minus, 1 to 18 digits, no leading zero, no minus
-# zero.  A list has 1 to 4 of them, whatever n is.  N and LENGTH have any count of digits.
+# zero.  A list has 1 to 4 of them, whatever n is.  N, LENGTH and the lengths of parts have
+# any count of digits.
 NUMBER = "(?:0|-?[1-9][0-9]{0,17})"
 LIST = f"{NUMBER}(?:,{NUMBER}){{0,{MAX_N - 1}}}"
 COUNT = "(?:0|[1-9][0-9]*)"
-LINE = re.compile(f"(?:(?:solve|job|result|image(?: {LIST} {LIST})?) {COUNT}"
+PARTS = f"parts {COUNT}(?:,{COUNT})*"
+LINE = re.compile(f"(?:(?:solve|job|result|{PARTS}|image(?: {LIST} {LIST})?) {COUNT}"
                   f"|decide {COUNT}(?: {LIST}){{4}} 0)\n")
 
-EXPECTED_LINE = ("a line of solve, job, result, image, image LO HI or decide N LO HI KLO KHI, "
-                 "and a length in digits (decide: 0), one space between words")
+EXPECTED_LINE = ("a line of solve, job, result, parts L1,L2,.., image, image LO HI or "
+                 "decide N LO HI KLO KHI, and a length in digits (decide: 0), "
+                 "one space between words")
 EXPECTED_TEXT = "as many bytes of text as the length says"
 
 

@@ -7,7 +7,8 @@ numbers: "places past n play no part", whatever stands there.
 
 import arithmetic
 from arithmetic import MAX_END, MAX_IMAGE, MAX_N, ends_of
-from texts import FromValues, demand, in_order, joined, walk_job, walked, within
+from texts import joined
+from walks import check, demand, in_order, walk_job, within
 
 
 def live_box(n, lo, hi, size):
@@ -22,7 +23,7 @@ def live_box(n, lo, hi, size):
 def image_of(job, lo, hi):
     """"A box handed in is checked like a job's lo and hi, but with line 0", after the
     faults of the job's own values, which have their lines."""
-    walked(walk_job, FromValues(job))
+    check(walk_job, job)
     X = live_box(job.n, lo, hi, MAX_END)
     return arithmetic.image(X, arithmetic.rows_of(job), arithmetic.equations_of(job))
 

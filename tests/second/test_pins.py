@@ -4,9 +4,10 @@ import unittest
 
 import answers
 import arithmetic
-import texts
+import walks
 from answers import answer
-from arithmetic import MARK, MAX_N, equation_over, equations_of, rows_of, slope, trace, unit
+from arithmetic import (MARK, MAX_N, MAX_TEXT, equation_over, equations_of, rows_of, slope,
+                        trace, unit)
 from cases import T11, T12, cases
 from damage import damaged, lines_of, replaced, whole
 from dice import Dice
@@ -14,7 +15,8 @@ from jobs import PINNED, largest_job, pinned_job, random_job, zero_job
 from pin_cases import FLAT, FLAT_LINES, ONES, PIN_AT
 from test_second import TWO, Told
 from test_whole import Slips, caught_by_cases, caught_by_claims
-from texts import demand, digit, job_text, number, read_job, solve, write_job
+from texts import job_text, read_job, solve, write_job
+from walks import demand, digit, number
 
 TEXT = whole(FLAT_LINES)
 
@@ -175,7 +177,7 @@ class Texts(Told):
             head, rest = whole(lines[:PIN_AT]), damaged(dice, whole(lines[PIN_AT:]))
             reply = answer("job", head + rest)
             pinned = head + b"pin=1\n" + rest
-            if len(pinned) > texts.MAX_TEXT:
+            if len(pinned) > MAX_TEXT:
                 self.told("job", pinned, 1, 0)
             elif reply.startswith(b"fault="):
                 fault, line = (int(part.partition(b"=")[2]) for part in lines_of(reply))
@@ -255,10 +257,10 @@ def rows_swapped(job, i):
 
 def pin_by(spelling, most, fault, kinds=("eigen",)):
     """The pin line by another spelling, limit or fault, or in other kinds too."""
-    def walk(line, kind, n):
-        if kind not in kinds or not line.pinned():
-            return walk_pin(line, kind, n)
-        pin = line("pin", spelling)
+    def walk(kind, n):
+        pin = (yield "pin", spelling) if kind in kinds else None
+        if pin is None:
+            return n if kind == "eigen" else 0
         demand(1 <= pin <= n + most, fault)
         return pin
     return walk
@@ -269,7 +271,7 @@ def pin_unwritten(job):
     return job_text(job._replace(pin=job.n))
 
 
-eigen_equation, walk_pin = arithmetic.eigen_equation, texts.walk_pin
+eigen_equation = arithmetic.eigen_equation
 
 
 class PinSlips(Slips):
@@ -281,7 +283,7 @@ class PinSlips(Slips):
         for instead in (pin_by(digit, -1, 9), pin_by(number, 0, 9), pin_by(number, -2, 9),
                         pin_by(number, -1, 2), pin_by(number, -1, 4),
                         pin_by(number, -1, 9, arithmetic.KINDS)):
-            self.slip("walk_pin", instead, caught_by_cases, module=texts)
+            self.slip("walk_pin", instead, caught_by_cases, module=walks)
         self.slip("job_text", pin_unwritten, caught_by_cases, module=answers)
 
 

@@ -7,8 +7,9 @@ from answers import answer
 from arithmetic import MAX_N, MAX_TEXT, Result, equation_over, equations_of
 from cases import CUBE, EXAMPLES, JOB_41, T7, T9, T11, T12
 from jobs import largest_job
-from texts import Fault, job_text, read_job, read_result, result_text
-from texts import solve, write_job, write_result
+from texts import (job_text, read_job, read_result, result_text, solve, write_job,
+                   write_result)
+from walks import Fault
 
 TEXT_41 = b"""job=41
 kind=poly

@@ -8,23 +8,17 @@ import steps
 from answers import answer
 from arithmetic import MAX_END, MAX_IMAGE, MAX_N
 from cases import JOB_41, T7, T9, T11
+from claims import told
 from jobs import largest_job
 from second import EXPECTED_LINE
 from steps import decision, image_of, live_box
 from test_second import TEXT_41
 from test_whole import Slips, caught_by_cases, run_batch
-from texts import Fault, demand, in_order, job_text
+from texts import job_text
+from walks import Fault, demand, in_order
 
 FAR = 10 ** 18                       # no number of a request: it has 19 digits
 E, K = MAX_END, MAX_IMAGE
-
-
-def told(entry, *values):
-    """What an entry answers, or the number and the line of its fault."""
-    try:
-        return entry(*values)
-    except Fault as fault:
-        return fault.number, fault.line
 
 
 class Images(unittest.TestCase):

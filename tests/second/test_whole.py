@@ -6,6 +6,7 @@ from unittest.mock import patch
 
 import arithmetic
 import texts
+import walks
 from answers import answer
 from arithmetic import MARK, MAX_N, MAX_TEXT
 from cases import cases, write_cases
@@ -221,7 +222,7 @@ def caught_by_claims():
     return False
 
 
-ASKED = list(cases(1, 1_500))
+ASKED = list(cases(1, 2_000))
 ANSWERED = [answer(*case) for case in ASKED]
 
 
@@ -279,15 +280,15 @@ class Claims(Slips):
         self.slip("equation_over", values_by_products, caught_by_cases)
 
     def test_slips_of_the_texts(self):
-        loose = texts.re.compile("-?[0-9]{1,9}")
+        loose = walks.re.compile("-?[0-9]{1,9}")
         unchecked = lambda *_: None
         for name, instead in (("A_NUMBER", loose), ("proper", unchecked),
                               ("in_order", unchecked), ("within", unchecked),
-                              ("MAX_TERMS", 17), ("MAX_DEGREE", 4), ("MAX_TEXT", MAX_TEXT + 1),
+                              ("MAX_TERMS", 17), ("MAX_DEGREE", 4),
                               ("MAX_STEPS", 1_001), ("MAX_END", 262_145),
                               ("MAX_ENTRY", 4_194_305)):
-            self.slip(name, instead, caught_by_cases, module=texts)
-        self.slip("end", unchecked, caught_by_cases, module=texts.FromText)
+            self.slip(name, instead, caught_by_cases, module=walks)
+        self.slip("MAX_TEXT", MAX_TEXT + 1, caught_by_cases, module=texts)
 
 
 if __name__ == "__main__":

@@ -9,7 +9,8 @@ it"; here only live places are kept.
 
 from arithmetic import MAX_END, MAX_ENTRY, MAX_JOB, MAX_N, MAX_STEPS, MAX_TERMS, Job, Result
 from cases import T11, T12
-from texts import Fault, solve, write_job, write_result
+from texts import solve, write_job, write_result
+from walks import Fault
 
 ROOM = 128                          # more bytes than any text here has
 LEAST, MOST = -2 ** 63, 2 ** 64 - 1     # what a place of the product's values can hold

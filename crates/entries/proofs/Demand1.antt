@@ -20,15 +20,18 @@ use Rattle.job_form.specs.JobForm.{readJob}
 use Rattle.job_form.specs.JobBytes.{jobBytes}
 use Rattle.result_form.specs.ResultForm.{readResult}
 use Rattle.result_form.specs.ResultShows.{showResult}
+use Rattle.job_parts.specs.declared.Parts.{Parts}
+use Rattle.job_parts.specs.Parts.{partTaken}
 use Rattle.desk.specs.Desk.{jobStatus, jobText, resultStatus, resultText, solveStatus, solveText}
 use Rattle.entries.specs.Numbers.{told, tell, orElse, shortBuffer, firstGiven, jobRows, resultRows}
-use Rattle.entries.specs.Numbers.{imageRows, decideRows}
+use Rattle.entries.specs.Numbers.{imageRows, decideRows, partsRows}
 use Rattle.entries.proofs.Answered.{job-status, result-status, solve-status}
 use Rattle.slips.specs.Slips.{foundIn}
 use Rattle.phrases.specs.Says.{sentenceMax}
 use Rattle.sentences.specs.Sentences.{slipWords, Explains}
 use Rattle.entries.proofs.Explained as explained
 use Rattle.entries.proofs.Faults as faults
+use Rattle.entries.proofs.PartsTold as parts
 use Rattle.entries.proofs.Texts as texts
 
 -- ---- job_read::read_job, result_read::read_result
@@ -73,6 +76,11 @@ image = faults.image-first
 -- P7: "3 for that n, first; 4 beyond the image's range, then 5 for its ends crossed, after .. the box's own"
 pub decide : (n : ℕ) (x k : Ends) → told (givesMove n x k .status) ≡ firstGiven (decideRows n x k)
 decide = faults.decide-first
+
+-- ---- job_parts::take
+-- P1, a state carried between calls: 4, line 0, where a count, a length or a line number is beyond its limits
+pub take-part : (p : Parts) (part : List ℕ) → told (partTaken p part .status) ≡ firstGiven (partsRows p)
+take-part = parts.take-first
 
 -- ---- job_write::write_job, result_write::write_result: any answer a that the contract allows, for the values' text
 -- and a buffer with the bytes old

@@ -4,6 +4,7 @@ pub mod Texts
 pub mod Faults
 pub mod Answered
 pub mod Explained
+pub mod PartsTold
 pub mod Demand1
 pub mod RunSettled
 pub mod ReadSettled
@@ -13,3 +14,4 @@ pub mod ForCSettled
 pub mod FramingSettled
 pub mod UnitsSettled
 pub mod StepSettled
+pub mod PartsSettled

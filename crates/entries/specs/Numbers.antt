@@ -18,6 +18,8 @@ use Rattle.jobs.specs.declared.Kind.{Kind}
 use Rattle.jobs.specs.declared.Ends.{Ends}
 use Rattle.jobs.specs.declared.Job.{Job}
 use Rattle.jobs.specs.declared.Result.{Result}
+use Rattle.job_parts.specs.declared.Parts.{Parts}
+use Rattle.job_parts.specs.Limits.{fits}
 use Rattle.faults.specs.declared.Status.{Status}
 
 -- "A fault returns its number and a line": 0 and 0 where there is none
@@ -123,3 +125,7 @@ imageRows j x = jobRows j ++ endsRows (j .head .n) (pos endMax) x
 abbrev pub decideRows : ℕ → Ends → Ends → List Row
 decideRows n x k =
     row 0 3 (not (goodUnknowns n)) ∷ (endsRows n (pos endMax) x ++ endsRows n (pos imageMax) k)
+
+-- what is carried between the calls of a text in parts: document 02, P1
+unfoldable pub partsRows : Parts → List Row
+partsRows p = row 0 4 (not (fits p)) ∷ []

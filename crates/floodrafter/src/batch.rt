@@ -78,8 +78,8 @@ fn bad_line() -> Hand
     ensures { λ r. ⌜ Nothing r ⌝ }
 {
     let whole = put(
-        b"error=expected a line of solve, job, result, image, image LO HI or decide N LO HI KLO KHI, \
-        and a length in digits (decide: 0), one space between words\n",
+        b"error=expected a line of solve, job, result, parts L1,L2,.., image, image LO HI or \
+        decide N LO HI KLO KHI, and a length in digits (decide: 0), one space between words\n",
     );
     ended(written(whole, Outcome::NotRun))
 }

@@ -37,12 +37,13 @@ fn requests(fd: i32) -> bool {
         What can be asked, with one space between words:\n\
         \x20   solve                     the result of a job text\n\
         \x20   job, result               the text again\n\
+        \x20   parts L1,L2,..            as job, the text taken in parts of these lengths, the rest last\n\
         \x20   image                     K of a job text's own box\n\
         \x20   image LO HI               K of a job text and this box\n\
         \x20   decide N LO HI KLO KHI    what a box of N unknowns and its image decide; LENGTH is 0\n\
         LO, HI, KLO and KHI are lists joined by commas, of numbers in marks of up to 18 digits; a missing\n\
-        place is 0. LENGTH and N are in digits with no leading zero. Bytes of a line, its line feed among\n\
-        them, at most: ",
+        place is 0. LENGTH, N and L1,L2,.. are in digits with no leading zero. Bytes of a line, its line\n\
+        feed among them, at most: ",
     )
 }
 
