@@ -3,7 +3,7 @@ use Prim.Native.Nat.{ℕ}
 use mathlib.Core.List.{List}
 use mathlib.Core.Bool.{Bool, true, _&&_}
 use Rattle.digits.specs.Bytes.{comma}
-use Rattle.text.specs.Cut.{Cut, fresh, feeds}
+use Rattle.text.specs.Cut.{fresh, feeds}
 use Rattle.arguments.specs.Counts.{isSpelled}
 
 -- one field more

@@ -1,7 +1,7 @@
 -- A text handed over from place to place.
 use Prim.Native.Nat.{ℕ, zero, suc, _-_, _≤_}
 use native.Mathlib.Omega.{arith}
-use mathlib.Core.Path.{_≡_, refl, ap, _∙_}
+use mathlib.Core.Path.{_≡_, ap, _∙_}
 use mathlib.Core.List.{List, [], _∷_, _++_}
 use mathlib.Core.Bool.{true}
 use lib.ListN.{take, drop, drop-of-length-le}
@@ -14,7 +14,12 @@ use Rattle.job_parts.proofs.Whole.{text-fits, bytes-append}
 
 take-on : (t : List ℕ) (a b : ℕ) → a ≤ b → take a t ++ take (b - a) (drop a t) ≡ take b t
 take-on [] a b h =
-    rw (drop-of-length-le {A = ℕ} [] {i = a} (omega arith), take-all {A = ℕ} a [] (omega arith), take-all {A = ℕ} b [] (omega arith), take-all {A = ℕ} (b - a) [] (omega arith))
+    rw (
+      drop-of-length-le {A = ℕ} [] {i = a} (omega arith),
+      take-all {A = ℕ} a [] (omega arith),
+      take-all {A = ℕ} b [] (omega arith),
+      take-all {A = ℕ} (b - a) [] (omega arith),
+    )
 take-on (x ∷ t) zero b h = let e : b - 0 ≡ b = omega arith in rw e
 take-on (x ∷ t) (suc a) zero h = absurd (omega arith)
 take-on (x ∷ t) (suc a) (suc b) h =

@@ -1,15 +1,14 @@
 -- The end of a text that came in parts, by its tests.
 use Prim.Native.Nat.{ℕ, _≤_, _<_}
 use native.Mathlib.Omega.{arith}
-use mathlib.Core.Path.{_≡_, refl, sym, ap, _∙_}
+use mathlib.Core.Path.{_≡_, refl, sym}
 use mathlib.Core.Bool.{true, false}
-use mathlib.Core.Logic.{_⊎_, inl, inr}
 use borrow.Author.Tests.{lt-ltb, le-ltb, eq-eqb, ne-eqb}
 use Rattle.sizes.specs.Sizes.{textMax}
 use Rattle.faults.specs.declared.Fault.{Fault}
 use Rattle.faults.specs.declared.Status.{Status}
 use Rattle.faults.specs.Words.{faultOf}
-use Rattle.reading.specs.Lines.{State, ended}
+use Rattle.reading.specs.Lines.{ended}
 use Rattle.jobs.specs.declared.JobLine.{JobLine}
 use Rattle.jobs.specs.Lines.{jobNumber}
 use Rattle.job_form.specs.JobForm.{jobEnd, refusedWith}
@@ -59,7 +58,12 @@ module _ (p : Parts) where
         pub end-held : 0 < p .held → refusedWith (Status.Refused Fault.Spelling missing) ≡ endOf p
         unfolding endOf whole stateOf ended
         end-held h =
-            rw (fit, le-ltb textMax (p .size) few, eq-eqb (p .read .fault) 0 good, ne-eqb (p .held) 0 (λ e. omega arith))
+            rw (
+              fit,
+              le-ltb textMax (p .size) few,
+              eq-eqb (p .read .fault) 0 good,
+              ne-eqb (p .held) 0 (λ e. omega arith),
+            )
 
         pub end-missing : p .held ≤ 0 → (p .read .next ≡ 0 → ⊥)
             → refusedWith (Status.Refused Fault.Spelling missing) ≡ endOf p

@@ -1,5 +1,5 @@
 -- A byte of a part, and a loop over them.
-use Prim.Native.Nat.{ℕ, suc, _+_, _-_, _≤_, _<_}
+use Prim.Native.Nat.{ℕ, _+_, _-_, _≤_, _<_}
 use native.Mathlib.Omega.{arith}
 use native.Mathlib.Numerals.{add-one}
 use mathlib.Core.Path.{_≡_, refl, sym, ap, _∙_}
@@ -16,7 +16,6 @@ use Rattle.reading.proofs.Ends.{line-end}
 use Rattle.next_line.specs.declared.Read.{Read}
 use Rattle.job_parts.specs.declared.Parts.{Parts}
 use Rattle.next_line.specs.State.{lineTaken}
-use Rattle.job_parts.specs.Limits.{sizeMax}
 use Rattle.job_parts.specs.Parts.{withByte, tooLong, byteTaken, bytesTaken}
 use Rattle.next_line.proofs.Rooms.{line-taken-fits}
 use Rattle.job_parts.proofs.Fits.{Fits}

@@ -4,15 +4,15 @@ use native.Mathlib.Omega.{arith}
 use native.Mathlib.Numerals.{add-one}
 use mathlib.Core.Path.{_≡_, refl, sym, ap, ap₂, _∙_}
 use mathlib.Core.List.{List, [], _∷_, _++_, foldl, foldl-append}
-use mathlib.Core.Bool.{Bool, true, false, cond}
+use mathlib.Core.Bool.{Bool, true, false}
 use mathlib.Core.Logic.{_⊎_, inl, inr}
-use lib.ListN.{length, take, drop, getD, set, length-set, length-take}
+use lib.ListN.{length, take, getD, set, length-set, length-take}
 use lib.Seq.{getD-set-same, getD-set-other}
 use lib.Dec.{ltb, eqb}
-use borrow.Author.Tests.{lt-ltb, le-ltb, eq-eqb, ne-eqb, ltb-true, ltb-false, eqb-true, eqb-false}
+use borrow.Author.Tests.{lt-ltb, le-ltb, eq-eqb, ltb-true, ltb-false, eqb-true, eqb-false}
 use Rattle.sizes.specs.Sizes.{textMax}
 use Rattle.digits.specs.Bytes.{lineFeed}
-use Rattle.text.specs.Cut.{Cut, fresh, feed, feeds, pieces, rest, PieceEnd}
+use Rattle.text.specs.Cut.{Cut, feed, feeds, pieces, rest, PieceEnd}
 use Rattle.text.proofs.Cuts.{feed-sep, feed-held}
 use Rattle.text.proofs.Pieces.{cut-fold}
 use Rattle.faults.specs.declared.Fault.{Fault}

@@ -4,7 +4,6 @@ use mathlib.Core.Path.{_≡_}
 use mathlib.Core.Bool.{false}
 use mathlib.Core.List.{List}
 use Rattle.sizes.specs.Sizes.{nMax}
-use Rattle.faults.specs.declared.Status.{Status}
 use Rattle.faults.specs.Checks.{isBad, onLine}
 use Rattle.jobs.specs.declared.Kind.{Kind}
 use Rattle.jobs.specs.declared.Body.{Body}

@@ -4,7 +4,6 @@ use mathlib.Core.Path.{_≡_, refl, sym, ap, _∙_}
 use mathlib.Core.List.{List}
 use mathlib.Core.Bool.{Bool, true, false, not, true≢false, false≢true}
 use lib.ListN.{length}
-use lib.Dec.{ltb}
 use borrow.Author.Tests.{lt-ltb, eq-eqb, not-true, not-false}
 use Rattle.faults.specs.declared.Fault.{Fault}
 use Rattle.faults.specs.declared.Finding.{Finding}
@@ -17,7 +16,7 @@ use Rattle.jobs.specs.declared.Kind.{Kind}
 use Rattle.jobs.specs.declared.Job.{Job}
 use Rattle.jobs.specs.declared.JobLine.{JobLine}
 use Rattle.jobs.specs.Lines.{jobNumber}
-use Rattle.job_form.specs.JobForm.{jobForm, jobEnd, jobSays, systemSays}
+use Rattle.job_form.specs.JobForm.{jobEnd, jobSays, systemSays}
 use Rattle.line_read.specs.At.{said}
 use Rattle.line_read.specs.States.{Tells}
 use Rattle.next_line.specs.declared.Read.{Read}

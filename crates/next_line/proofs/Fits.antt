@@ -1,5 +1,4 @@
 -- The limits as a test and as facts.
-use Prim.Native.Nat.{_≤_}
 use mathlib.Core.Path.{_≡_}
 use mathlib.Core.Bool.{true, _&&_}
 use lib.Dec.{leb}

@@ -1,17 +1,17 @@
 -- The numbers that are carried stay within their limits.
 use Prim.Native.Nat.{ℕ, _+_, _-_, _≤_, _<_}
 use native.Mathlib.Omega.{arith}
-use mathlib.Core.Path.{_≡_, refl, sym, ap, subst, _∙_}
+use mathlib.Core.Path.{_≡_, refl, sym, subst}
 use mathlib.Core.List.{List}
 use mathlib.Core.Bool.{Bool, true, false, cond}
 use lib.Dec.{eqb, ltb}
-use borrow.Author.Tests.{ltb-true, eqb-true, eqb-false, leb-true, le-leb}
+use borrow.Author.Tests.{ltb-true, eqb-true, eqb-false}
 use Rattle.sizes.specs.Sizes.{nMax}
 use Rattle.faults.specs.declared.Fault.{Fault}
 use Rattle.faults.specs.Words.{faultNumber, faultMax}
 use Rattle.text.specs.Keys.{startsWith}
 use Rattle.text.specs.Words.{pinKey}
-use Rattle.reading.specs.Got.{Got, after, Told}
+use Rattle.reading.specs.Got.{Got, after}
 use Rattle.reading.specs.Lines.{Next, State, heard, step}
 use Rattle.reading.proofs.Told.{fault-got}
 use Rattle.scan.specs.Lines.{lineOf}
@@ -20,17 +20,15 @@ use Rattle.jobs.specs.declared.Head.{Head}
 use Rattle.jobs.specs.declared.Job.{Job}
 use Rattle.jobs.specs.declared.JobLine.{JobLine}
 use Rattle.jobs.specs.Lines.{afterN, jobNumber, LineFits}
-use Rattle.jobs.specs.Parts.{withUnknowns}
 use Rattle.jobs.proofs.LineLaws.{pin-lines-few}
 use Rattle.checks.proofs.CheckLaws.{unknowns-fine}
-use Rattle.lines.specs.Lines.{unknownsOf, lowOf}
+use Rattle.lines.specs.Lines.{unknownsOf}
 use Rattle.lines.proofs.Found.{found-fine}
 use Rattle.lines.proofs.Unknowns.{unknowns-told}
 use Rattle.job_form.specs.JobForm.{jobForm, jobSays, systemSays, afterSystem}
 use Rattle.next_line.specs.declared.Read.{Read}
 use Rattle.next_line.specs.State.{kindNumber, placeOf, lineIn, jobOf, withState, lineTaken}
-use Rattle.next_line.specs.Limits.{placeMax, lineMax, kindMax, readFits}
-use Rattle.next_line.proofs.Backs.{line-back}
+use Rattle.next_line.specs.Limits.{placeMax, lineMax, kindMax}
 
 -- ---- the place of the next line
 
@@ -51,8 +49,8 @@ system-room i n few h = go (ltb (i + 1) n) refl
 pub place-back : (k : ℕ) → placeOf (lineIn k) ≡ k
 unfolding lineIn
 place-back k =
-    go (eqb k 0) (eqb k 1) (eqb k 2) (eqb k 3) (eqb k 4) (eqb k 5) (eqb k 6) (eqb k 7) (eqb k 8) refl refl refl refl refl
-    refl refl refl refl
+    go (eqb k 0) (eqb k 1) (eqb k 2) (eqb k 3) (eqb k 4) (eqb k 5) (eqb k 6) (eqb k 7) (eqb k 8)
+    refl refl refl refl refl refl refl refl refl
   where
     go : (a b c d e f g h i : Bool) → eqb k 0 ≡ a → eqb k 1 ≡ b → eqb k 2 ≡ c → eqb k 3 ≡ d → eqb k 4 ≡ e → eqb k 5 ≡ f
         → eqb k 6 ≡ g → eqb k 7 ≡ h → eqb k 8 ≡ i

@@ -1,11 +1,7 @@
 -- `job_parts::end` meets its contract.
-use mathlib.Core.Path.{sym, ap, _∙_}
-use Prim.Native.Nat.{ℕ}
+use mathlib.Core.Path.{sym, _∙_}
 use borrow.Author.Needs.{needs}
 use borrow.Author.Tests.{not-true, not-false}
-use Rattle.faults.specs.declared.Fault.{Fault}
-use Rattle.faults.specs.declared.Status.{Status}
-use Rattle.job_form.specs.JobForm.{refusedWith}
 use Rattle.next_line.specs.State.{lineIn, headOf}
 use Rattle.job_parts.proofs.Fits.{has-fits}
 use Rattle.next_line.proofs.Rooms.{place-back, line-fits}
@@ -22,7 +18,9 @@ returns-2 : tie.Need-returns-2
 returns-2 c =
     let start = c .before .before .before .before .before in
     c .refused2 .ensures
-    ∙ end-long (start .args .p) (sym (c .before .before .before .before .within-limits .ensures) ∙ not-false _ (c .before .before .before .if1 .left))
+    ∙ end-long (start .args .p)
+    (sym (c .before .before .before .before .within-limits .ensures)
+    ∙ not-false _ (c .before .before .before .if1 .left))
     (c .before .if2 .taken)
 
 returns-3 : tie.Need-returns-3
@@ -37,7 +35,8 @@ job-line-number-requires : tie.Need-job-line-number-requires
 job-line-number-requires c κs =
     let limits = c .before .before .before .before .before .before .before .before in
     let p = limits .before .args .p in
-    let fit = has-fits p (sym (limits .within-limits .ensures) ∙ not-false _ (c .before .before .before .before .before .before .before .if1 .left)) in
+    let left = c .before .before .before .before .before .before .before .if1 .left in
+    let fit = has-fits p (sym (limits .within-limits .ensures) ∙ not-false _ left) in
     rw (c .head-of .ensures, c .before .line-in .ensures)
     (line-fits (lineIn (p .read .next)) (headOf (p .read)) (rw (place-back (p .read .next)) (fit .read .next))
     (fit .read .few))

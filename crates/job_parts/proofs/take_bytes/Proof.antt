@@ -40,24 +40,29 @@ line-taken-requires c κs =
     let loop = c .before .before .before .before .before .before .before in
     let start = loop .before .before .before .before in
     let held = feed-ends (loop .loop .bytes) (loop .loop .held) (getD (start .args .part .now) (loop .loop .i) 0)
-    (rw (loop .loop .inv .0) (omega (arith, c .before .before .before .before .before .if1 .left, loop .loop .inv .1 .fit .come)))
+    (rw (loop .loop .inv .0)
+    (omega (arith, c .before .before .before .before .before .if1 .left, loop .loop .inv .1 .fit .come)))
     (c .before .before .before .if2 .taken) in
     ((held, fits-read _ (loop .loop .inv .1 .fit .read)), c .before .if3 .taken)
 
 loop-again : tie.Need-loop-again Inv-loop μ-loop
 loop-again c =
-    let loop = c .before .before .before .before .before .before .before .before in
+    let c4 = c .before .before .before .before in
+    let loop = c4 .before .before .before .before in
     rw (c .line-taken .ensures) (
       rw (length-set _ _ _) (loop .loop .inv .0),
-      going-line _ _ (loop .loop .inv .1) (c .before .before .before .before .before .before .before .loop-test .taken) (c .before .before .before .before .before .before .if1 .left) (c .before .before .before .before .if2 .taken),
+      going-line _ _ (loop .loop .inv .1) (c4 .before .before .before .loop-test .taken)
+          (c4 .before .before .if1 .left) (c4 .if2 .taken),
     )
 
 loop-again-2 : tie.Need-loop-again-2 Inv-loop μ-loop
 loop-again-2 c =
-    let loop = c .before .before .before .before .before .before in (
+    let c2 = c .before .before in
+    let loop = c2 .before .before .before .before in (
       rw (length-set _ _ _) (loop .loop .inv .0),
       rw (line-stays (loop .loop .read) _ (c .if3 .left)) at
-          (going-line _ _ (loop .loop .inv .1) (c .before .before .before .before .before .loop-test .taken) (c .before .before .before .before .if1 .left) (c .before .before .if2 .taken)),
+          (going-line _ _ (loop .loop .inv .1) (c2 .before .before .before .loop-test .taken)
+          (c2 .before .before .if1 .left) (c2 .if2 .taken)),
     )
 
 add-held : tie.Need-add-held Inv-loop μ-loop
@@ -79,6 +84,7 @@ take-bytes-spec =
     tie.close
     (tie.spec Inv-loop μ-loop loop-holds (λ c. search needs) returns
     (λ c. omega (arith, c .before .before .loop-test .taken)) array-write-bytes add-size (λ c. search needs)
-    line-taken-requires (λ c. omega (arith, c .before .before .before .before .before .before .before .loop-test .taken)) loop-again
+    line-taken-requires
+    (λ c. omega (arith, c .before .before .before .before .before .before .before .loop-test .taken)) loop-again
     (λ c. omega (arith, c .before .before .before .before .before .loop-test .taken)) loop-again-2 add-held
     (λ c. omega (arith, c .before .before .before .loop-test .taken)) loop-again-3 returns-2)

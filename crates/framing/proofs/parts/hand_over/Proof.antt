@@ -54,7 +54,8 @@ returns : tie.Need-returns Inv-loop μ-loop
 returns c =
     let loop = c .before .before .before .before in
     let text = loop .before .before .before .before .args .text .now in
-    handed-on text (loop .loop .from) (length text) (loop .loop .inv .0) (loop .loop .inv .1) (c .before .take2 .ensures)
+    handed-on text (loop .loop .from) (length text) (loop .loop .inv .0) (loop .loop .inv .1)
+    (c .before .take2 .ensures)
     ∙ ap (bytesTaken begun) (take-all (length text) text (omega arith))
 
 pub hand-over-spec : {M : Type 1} → statement M
@@ -62,5 +63,5 @@ hand-over-spec =
     tie.close
     (tie.spec Inv-loop μ-loop (λ c κs. search needs) loop-holds (λ c κs. search needs) (λ c. search needs)
     (λ c. search needs) (λ c. search needs) (λ c κs. search needs) sub-part-length (λ c κs. search needs) add-to
-    (λ c. search needs) (λ c. search needs) part-take-end (λ c κs. search needs) (λ c. search needs) loop-less loop-again
-    (λ c. search needs) part-take-start-2 (λ c. search needs) (λ c κs. search needs) returns)
+    (λ c. search needs) (λ c. search needs) part-take-end (λ c κs. search needs) (λ c. search needs) loop-less
+    loop-again (λ c. search needs) part-take-start-2 (λ c. search needs) (λ c κs. search needs) returns)

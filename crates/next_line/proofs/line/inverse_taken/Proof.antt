@@ -1,24 +1,32 @@
 -- `next_line::line::inverse_taken` meets its contract.
-use Rattle.job_form.specs.JobForm.{jobSays}
-use Rattle.jobs.specs.Parts.{withInverse}
-use Rattle.jobs.specs.declared.JobLine.{JobLine}
-use Rattle.line_read.proofs.Tells.{rows-tells}
-use Rattle.lines.specs.Lines.{inverseOf}
+use mathlib.Core.List.{List}
 use mathlib.Core.Path.{_∙_}
 use borrow.Author.Needs.{needs}
+use Rattle.job_form.specs.JobForm.{jobSays}
+use Rattle.jobs.specs.Parts.{withInverse}
+use Rattle.jobs.specs.declared.Job.{Job}
+use Rattle.jobs.specs.declared.JobLine.{JobLine}
+use Rattle.jobs.specs.declared.Row.{Row}
+use Rattle.line_read.proofs.Tells.{rows-tells}
+use Rattle.lines.specs.Lines.{inverseOf}
+use Rattle.reading.specs.Lines.{Next}
+use Rattle.next_line.specs.declared.Read.{Read}
 use Rattle.next_line.specs.State.{jobOf, hearing}
 use Rattle.next_line.proofs.Backs.{kind-same}
 use Rattle.next_line.proofs.Arms.{left-fine, left-bad}
 use Rattle.next_line.proofs.line.inverse_taken.Statement.{statement}
 use Rattle.next_line.proofs.line.inverse_taken.Tie as tie
 
+abbrev put : Read → List Row → Next JobLine Job
+put r x = record { kind = JobLine.Steps; value = withInverse (jobOf r) x }
+
 returns : tie.Need-returns
 unfolding hearing jobSays
 returns c =
     let start = c .before .before .before .before .before in
+    let r = start .args .r in
     c .stopped .ensures
-    ∙ left-bad (inverseOf (start .args .r .n)) (λ x. record { kind = JobLine.Steps; value = withInverse (jobOf (start .args .r)) x }) (start .args .r) (start .args .number)
-    (start .args .line .now)
+    ∙ left-bad (inverseOf (r .n)) (put r) r (start .args .number) (start .args .line .now)
     (start .pre .ends) (rows-tells _ _ (c .before .before .before .inverse-line .ensures))
     (c .before .before .is-fine .ensures) (c .before .if1 .taken)
 
@@ -26,14 +34,15 @@ returns-2 : tie.Need-returns-2
 unfolding hearing jobSays
 returns-2 c =
     let start = c .before .before .before .before .before .before in
+    let r = start .args .r in
     rw (c .place-of .ensures)
     (rw (kind-same _ (start .pre .kind)) at
-    (left-fine (inverseOf (start .args .r .n)) (λ x. record { kind = JobLine.Steps; value = withInverse (jobOf (start .args .r)) x }) (start .args .r) (start .args .number)
-    (start .args .line .now)
+    (left-fine (inverseOf (r .n)) (put r) r (start .args .number) (start .args .line .now)
     (start .pre .ends) (rows-tells _ _ (c .before .before .before .before .inverse-line .ensures))
     (c .before .before .before .is-fine .ensures) (c .before .before .if1 .left)))
 
 pub inverse-taken-spec : {M : Type 1} → statement M
 inverse-taken-spec =
     tie.close
-    (tie.spec (λ c κs. search needs) (λ c κs. search needs) (λ c κs. search needs) returns (λ c κs. search needs) returns-2)
+    (tie.spec (λ c κs. search needs) (λ c κs. search needs) (λ c κs. search needs) returns (λ c κs. search needs)
+    returns-2)

@@ -1,6 +1,6 @@
 -- `next_line::line::line_taken` meets its contract: each line by the function of its kind.
 use native.Mathlib.Omega.{arith}
-use mathlib.Core.Path.{_≡_, refl, sym, ap, subst, _∙_}
+use mathlib.Core.Path.{_≡_, refl, sym, subst, _∙_}
 use mathlib.Core.Bool.{true}
 use mathlib.Core.List.{List}
 use Prim.Native.Nat.{ℕ, _≤_, _<_}
@@ -26,7 +26,8 @@ job-line-number-requires c κs =
     let start = c .before .before in
     let fit = read-fits (start .args .r) (start .pre .0 .1) in
     rw (c .head-of .ensures, c .before .line-in .ensures)
-    (line-fits (lineIn (start .args .r .next)) (headOf (start .args .r)) (rw (place-back (start .args .r .next)) (fit .next)) (fit .few))
+    (line-fits (lineIn (start .args .r .next)) (headOf (start .args .r))
+    (rw (place-back (start .args .r .next)) (fit .next)) (fit .few))
 
 system-taken-requires : tie.Need-system-taken-requires
 system-taken-requires c κs =

@@ -3,7 +3,6 @@ use Prim.Native.Nat.{ℕ, _≤_}
 use mathlib.Core.Path.{_≡_}
 use native.Mathlib.Omega.{arith}
 use borrow.Author.Tests.{ne-eqb}
-use borrow.Author.Needs.{needs}
 use Rattle.next_line.specs.State.{lineIn}
 use Rattle.next_line.proofs.state.line_in.Statement.{statement}
 use Rattle.next_line.proofs.state.line_in.Tie as tie

@@ -11,7 +11,8 @@ use Rattle.next_line.proofs.state.place_of.Tie as tie
 
 add-result : tie.Need-add-result
 add-result c =
-    omega (arith, subst (λ (k : JobLine). placeOf k ≤ placeMax) (c .before .k .given .1) (c .before .before .before .pre))
+    let room = c .before .before .before .pre in
+    omega (arith, subst (λ (k : JobLine). placeOf k ≤ placeMax) (c .before .k .given .1) room)
 
 returns-9 : tie.Need-returns-9
 returns-9 c = rw (c .before .k .given .1)

@@ -1,6 +1,5 @@
 -- `next_line::state::read_within` meets its contract, by its tests in their order.
 use borrow.Author.Tests.{le-leb, lt-leb}
-use borrow.Author.Needs.{needs}
 use Rattle.next_line.specs.Limits.{readFits}
 use Rattle.next_line.proofs.state.read_within.Statement.{statement}
 use Rattle.next_line.proofs.state.read_within.Tie as tie
