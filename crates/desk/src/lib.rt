@@ -1,6 +1,4 @@
 // From text to text: a job's answer, and both texts written again. A fault of the text is returned and writes nowhere.
-pub mod parts;
-
 ghost use mathlib.Core.Path.{_≡_};
 ghost use Rattle.faults.specs.declared.Status.{Status};
 ghost use Rattle.faults.specs.Answer.{Leaves};
@@ -44,7 +42,7 @@ pub fn rewrite_job(text: &[u8], out: &mut [u8]) -> Written
 }
 
 // What a reader took needs no second check, and neither does what a run made of it.
-fn write_run(j: Job, out: &mut [u8]) -> Written
+pub fn write_run(j: Job, out: &mut [u8]) -> Written
     requires { ⌜ checkJob j ≡ Status.Done ⌝ }
     ensures { λ a. ⌜ Leaves (runStatus j) (runText j) (now (out .entry)) (now (out .exit)) a ⌝ }
 {

@@ -5,6 +5,8 @@ pub mod Faults
 pub mod Answered
 pub mod Explained
 pub mod PartsTold
+pub mod InParts
+pub mod RequestP1
 pub mod Demand1
 pub mod RunSettled
 pub mod ReadSettled

@@ -13,12 +13,12 @@ use Rattle.job_parts.proofs.take.Reads as take
 use Rattle.job_parts.proofs.take.Kinds as take-kinds
 use Rattle.job_parts.proofs.end.Reads as end
 use Rattle.job_parts.proofs.end.Kinds as end-kinds
-use Rattle.desk.proofs.parts.end_status.Reads as end-status
-use Rattle.desk.proofs.parts.end_status.Kinds as end-status-kinds
-use Rattle.desk.proofs.parts.end_job.Reads as end-job
-use Rattle.desk.proofs.parts.end_job.Kinds as end-job-kinds
-use Rattle.desk.proofs.parts.end_solve.Reads as end-solve
-use Rattle.desk.proofs.parts.end_solve.Kinds as end-solve-kinds
+use Rattle.parts_end.proofs.end_status.Reads as end-status
+use Rattle.parts_end.proofs.end_status.Kinds as end-status-kinds
+use Rattle.parts_end.proofs.end_job.Reads as end-job
+use Rattle.parts_end.proofs.end_job.Kinds as end-job-kinds
+use Rattle.parts_end.proofs.end_solve.Reads as end-solve
+use Rattle.parts_end.proofs.end_solve.Kinds as end-solve-kinds
 use Rattle.floodrafter_c.proofs.parts.floodrafter_begin.Reads as c-begin
 use Rattle.floodrafter_c.proofs.parts.floodrafter_begin.Kinds as c-begin-kinds
 use Rattle.floodrafter_c.proofs.parts.floodrafter_take.Reads as c-take
@@ -47,7 +47,7 @@ pub end-settled : (κs : Lfts 0) (a : Dens κs end-kinds.ps) (r r' : resT end-ki
     → end.Post κs a r s → end.Post κs a r' s' → r ≡ r'
 end-settled κs a r r' s s' p q = p ∙ sym q
 
--- ---- desk::parts
+-- ---- parts_end
 
 pub end-status-settled : (κs : Lfts 0) (a : Dens κs end-status-kinds.ps) (r r' : resT end-status-kinds.r κs .Denot)
     (s s' : AtExit (endedOf 0 end-status-kinds.ps end-status-kinds.r) κs)

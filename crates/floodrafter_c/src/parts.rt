@@ -6,13 +6,13 @@ ghost use Rattle.floodrafter_c.specs.Numbers.{checked, Gives};
 ghost use Rattle.floodrafter_c.specs.Parts.{numbersTaken};
 use crate::Answer;
 use crate::numbers;
-use desk::parts::end_job;
-use desk::parts::end_solve;
-use desk::parts::end_status;
 use faults::Status;
 use faults::Written;
 use faults::fault_number;
 use job_parts::Parts;
+use parts_end::end_job;
+use parts_end::end_solve;
+use parts_end::end_status;
 
 // `floodrafter_taken` of the header.
 #[repr(C)]

@@ -16,5 +16,3 @@ pub mod Examples
 pub mod ByTwo
 pub mod RequestP7
 pub mod RequestP2
-pub mod InParts
-pub mod RequestP1

@@ -18,7 +18,7 @@ use Rattle.next_line.specs.State.{stateOf}
 use Rattle.job_parts.specs.declared.Parts.{Parts}
 use Rattle.job_parts.specs.Limits.{sizeMax, fits}
 use Rattle.job_parts.specs.Parts.{partTaken, endOf, given}
-use Rattle.promises.proofs.InParts as parts
+use Rattle.entries.proofs.InParts as parts
 
 -- "a reader that takes a job's text in parts of any length, zero included, and answers only when told the text has
 -- ended. Its answer, fault number and line must be those of the whole text read at once,"

@@ -1,8 +1,8 @@
--- `desk::parts::end_job` meets its contract.
+-- `parts_end::end_job` meets its contract.
 use borrow.Author.Needs.{needs}
 use Rattle.desk.proofs.Answer.{read-bad, read-good}
-use Rattle.desk.proofs.parts.end_job.Statement.{statement}
-use Rattle.desk.proofs.parts.end_job.Tie as tie
+use Rattle.parts_end.proofs.end_job.Statement.{statement}
+use Rattle.parts_end.proofs.end_job.Tie as tie
 
 returns : tie.Need-returns
 returns c = rw (← c .before .before .before .end .ensures) (read-bad _ (c .before .status .given .1))

@@ -1,7 +1,7 @@
--- `desk::parts::end_status` meets its contract.
+-- `parts_end::end_status` meets its contract.
 use borrow.Author.Needs.{needs}
-use Rattle.desk.proofs.parts.end_status.Statement.{statement}
-use Rattle.desk.proofs.parts.end_status.Tie as tie
+use Rattle.parts_end.proofs.end_status.Statement.{statement}
+use Rattle.parts_end.proofs.end_status.Tie as tie
 
 returns : tie.Need-returns
 returns c = rw (← c .before .before .end .ensures, ← c .before .check-job .ensures) (c .and-then .ensures)

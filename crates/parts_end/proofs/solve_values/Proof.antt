@@ -1,11 +1,11 @@
--- `desk::parts::solve_values` meets its contract.
+-- `parts_end::solve_values` meets its contract.
 use borrow.Author.Needs.{needs}
 use mathlib.Core.Path.{sym, _∙_}
 use Rattle.run.specs.Job.{runJob}
 use Rattle.desk.specs.Desk.{runStatus, runText}
 use Rattle.desk.proofs.Answer.{read-bad}
-use Rattle.desk.proofs.parts.solve_values.Statement.{statement}
-use Rattle.desk.proofs.parts.solve_values.Tie as tie
+use Rattle.parts_end.proofs.solve_values.Statement.{statement}
+use Rattle.parts_end.proofs.solve_values.Tie as tie
 
 write-run-requires : tie.Need-write-run-requires
 write-run-requires c κs = sym (c .before .before .before .check-job .ensures) ∙ c .before .enum-told .given .1

@@ -3,9 +3,9 @@
 ghost use mathlib.Core.Path.{_≡_};
 ghost use Rattle.faults.specs.Answer.{Leaves};
 ghost use Rattle.job_parts.specs.Parts.{endOf};
 ghost use Rattle.desk.specs.Desk.{writtenStatus, writtenText, runStatus, runText, solvedStatus, solvedText};
-use crate::write_run;
 use checks::job::check_job;
+use desk::write_run;
 use faults::Status;
 use faults::Written;
 use faults::and_then;
