@@ -45,6 +45,10 @@ system-room i n few h = go (ltb (i + 1) n) refl
     go true e = omega (arith, ltb-true (i + 1) n e)
     go false e = omega arith
 
+-- (omega takes so many tests at a time)
+pub from-four : (k : ℕ) → (k ≡ 0 → ⊥) → (k ≡ 1 → ⊥) → (k ≡ 2 → ⊥) → (k ≡ 3 → ⊥) → 4 ≤ k
+from-four k a b c d = omega arith
+
 -- the line of a place has that place
 pub place-back : (k : ℕ) → placeOf (lineIn k) ≡ k
 unfolding lineIn
@@ -68,12 +72,9 @@ place-back k =
     go false false false false false false false true i _ _ _ _ _ _ _ p _ = sym (eqb-true k 7 p)
     go false false false false false false false false true _ _ _ _ _ _ _ _ p = sym (eqb-true k 8 p)
     go false false false false false false false false false p0 p1 p2 p3 p4 p5 p6 p7 p8 =
-        let low = from-four (eqb-false k 0 p0) (eqb-false k 1 p1) (eqb-false k 2 p2) (eqb-false k 3 p3) in
+        let low = from-four k (eqb-false k 0 p0) (eqb-false k 1 p1) (eqb-false k 2 p2) (eqb-false k 3 p3) in
         past-eight low (eqb-false k 4 p4) (eqb-false k 5 p5) (eqb-false k 6 p6) (eqb-false k 7 p7) (eqb-false k 8 p8)
       where
-        from-four : (k ≡ 0 → ⊥) → (k ≡ 1 → ⊥) → (k ≡ 2 → ⊥) → (k ≡ 3 → ⊥) → 4 ≤ k
-        from-four a b c d = omega arith
-
         past-eight : 4 ≤ k → (k ≡ 4 → ⊥) → (k ≡ 5 → ⊥) → (k ≡ 6 → ⊥) → (k ≡ 7 → ⊥) → (k ≡ 8 → ⊥) → 9 + (k - 9) ≡ k
         past-eight low a b c d e = let nine : 9 ≤ k = omega arith in omega (arith, nine)
 

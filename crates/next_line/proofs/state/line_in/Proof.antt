@@ -1,9 +1,8 @@
 -- `next_line::state::line_in` meets its contract.
-use Prim.Native.Nat.{ℕ, _≤_}
-use mathlib.Core.Path.{_≡_}
 use native.Mathlib.Omega.{arith}
 use borrow.Author.Tests.{ne-eqb}
 use Rattle.next_line.specs.State.{lineIn}
+use Rattle.next_line.proofs.Rooms.{from-four}
 use Rattle.next_line.proofs.state.line_in.Statement.{statement}
 use Rattle.next_line.proofs.state.line_in.Tie as tie
 
@@ -42,9 +41,6 @@ returns-8 c = rw (c .match .keys8)
 returns-9 : tie.Need-returns-9
 unfolding lineIn
 returns-9 c = rw (c .match .keys9)
-
-from-four : (k : ℕ) → (k ≡ 0 → ⊥) → (k ≡ 1 → ⊥) → (k ≡ 2 → ⊥) → (k ≡ 3 → ⊥) → 4 ≤ k
-from-four k a b c d = omega arith
 
 sub-t3 : tie.Need-sub-t3
 sub-t3 c =
