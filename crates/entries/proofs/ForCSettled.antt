@@ -5,7 +5,7 @@ use denote.Ref.{now}
 use denote.Triple.Clauses.{AtExit}
 use borrow.Fn.Kinds.{Dens, resT, endedOf}
 use contract.Lifetimes.{Lfts}
-use Rattle.floodrafter_c.proofs.Gives.{settled}
+use Rattle.c_answers.proofs.Gives.{settled}
 use Rattle.floodrafter_c.proofs.floodrafter_solve.Reads as solve
 use Rattle.floodrafter_c.proofs.floodrafter_solve.Kinds as solve-kinds
 use Rattle.floodrafter_c.proofs.floodrafter_rewrite_job.Reads as job

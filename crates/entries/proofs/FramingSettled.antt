@@ -6,15 +6,15 @@ use denote.Triple.Clauses.{AtExit}
 use borrow.Fn.Kinds.{Dens, resT, endedOf}
 use contract.Lifetimes.{Lfts}
 use Rattle.faults.proofs.Answer.{settled}
-use Rattle.framing.proofs.Told.{told-settled}
-use Rattle.framing.proofs.requests.request_of.Reads as request-of
-use Rattle.framing.proofs.requests.request_of.Kinds as request-of-kinds
-use Rattle.framing.proofs.packets.look.Reads as look
-use Rattle.framing.proofs.packets.look.Kinds as look-kinds
-use Rattle.framing.proofs.answers.reply.Reads as reply
-use Rattle.framing.proofs.answers.reply.Kinds as reply-kinds
-use Rattle.framing.proofs.answers.tell.Reads as tell
-use Rattle.framing.proofs.answers.tell.Kinds as tell-kinds
+use Rattle.answers.proofs.Told.{told-settled}
+use Rattle.requests.proofs.request_of.Reads as request-of
+use Rattle.requests.proofs.request_of.Kinds as request-of-kinds
+use Rattle.requests.proofs.packets.look.Reads as look
+use Rattle.requests.proofs.packets.look.Kinds as look-kinds
+use Rattle.answers.proofs.reply.Reads as reply
+use Rattle.answers.proofs.reply.Kinds as reply-kinds
+use Rattle.answers.proofs.tell.Reads as tell
+use Rattle.answers.proofs.tell.Kinds as tell-kinds
 
 pub request-settled : (κs : Lfts 1) (a : Dens κs request-of-kinds.ps) (r r' : resT request-of-kinds.r κs .Denot)
     (s s' : AtExit (endedOf 1 request-of-kinds.ps request-of-kinds.r) κs)

@@ -6,7 +6,7 @@ use denote.Triple.Clauses.{AtExit}
 use borrow.Fn.Kinds.{Dens, resT, endedOf}
 use contract.Lifetimes.{Lfts}
 use Rattle.faults.proofs.Answer.{settled}
-use Rattle.floodrafter_c.proofs.Gives as gives
+use Rattle.c_answers.proofs.Gives as gives
 use Rattle.job_parts.proofs.begin.Reads as begin
 use Rattle.job_parts.proofs.begin.Kinds as begin-kinds
 use Rattle.job_parts.proofs.take.Reads as take

@@ -2,8 +2,8 @@
 use Prim.Native.Nat.{ℕ, _+_, _≤_}
 use mathlib.Core.Path.{_≡_}
 use Rattle.sizes.specs.Sizes.{textMax}
-use Rattle.framing.specs.Packets.{headerMax}
-use Rattle.framing.specs.Answers.{roomMax, lineMax}
+use Rattle.requests.specs.Packets.{headerMax}
+use Rattle.answers.specs.Answers.{roomMax, lineMax}
 use Rattle.floodrafter.specs.declared.batch.Hand.{Hand}
 
 abbrev pub blockMax : ℕ

@@ -3,7 +3,7 @@ use crate::help;
 use crate::outcomes::Outcome;
 use crate::people::How;
 use crate::streams::say;
-use framing::Op;
+use requests::Op;
 use libc::STDERR_FILENO;
 use text::same_bytes;
 

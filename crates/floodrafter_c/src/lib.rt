@@ -6,37 +6,12 @@ ghost use mathlib.Core.Path.{_≡_};
 ghost use Rattle.job_form.specs.JobForm.{readJob};
 ghost use Rattle.result_form.specs.ResultForm.{readResult};
 ghost use Rattle.desk.specs.Desk.{jobStatus, jobText, resultStatus, resultText, solveStatus, solveText};
-ghost use Rattle.floodrafter_c.specs.Numbers.{numbersOf, checked, Gives};
+ghost use Rattle.c_answers.specs.Numbers.{checked, Gives};
 ghost use Rattle.slips.specs.Slips.{foundIn};
 ghost use Rattle.sentences.specs.Sentences.{Explains};
-use faults::Status;
+use c_answers::Answer;
+use c_answers::numbers;
 use faults::Written;
-
-// `floodrafter_answer` of the header.
-#[repr(C)]
-pub struct Answer {
-    pub fault: u64,
-    pub line: u64,
-    pub len: usize,
-}
-
-fn numbers(w: Written) -> Answer
-    ensures { λ a. ⌜ a ≡ numbersOf w ⌝ }
-{
-    let status = w.status;
-    match status {
-        Status::Done => Answer {
-            fault: 0,
-            line: 0,
-            len: w.len,
-        },
-        Status::Refused(f, line) => Answer {
-            fault: faults::fault_number(f),
-            line,
-            len: w.len,
-        },
-    }
-}
 
 #[no_mangle]
 pub extern "C" fn floodrafter_solve(text: &[u8], out: &mut [u8]) -> Answer

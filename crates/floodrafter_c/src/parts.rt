@@ -2,10 +2,10 @@
 ghost use mathlib.Core.Path.{_≡_};
 ghost use Rattle.desk.specs.Desk.{writtenStatus, writtenText, solvedStatus, solvedText};
 ghost use Rattle.job_parts.specs.Parts.{begun, partTaken, endOf};
-ghost use Rattle.floodrafter_c.specs.Numbers.{checked, Gives};
+ghost use Rattle.c_answers.specs.Numbers.{checked, Gives};
 ghost use Rattle.floodrafter_c.specs.Parts.{numbersTaken};
-use crate::Answer;
-use crate::numbers;
+use c_answers::Answer;
+use c_answers::numbers;
 use faults::Status;
 use faults::Written;
 use faults::fault_number;

@@ -1,12 +1,11 @@
-// What is wrong with a text that its reader refuses: the reader's own functions say where it stops, and the bytes there
+// What is wrong with a line that its reader refuses: the reader's own functions say where it stops, and the bytes there
 // what it met.
-mod forms;
+pub mod forms;
 mod numbers;
-mod places;
-mod spelling;
+pub mod places;
+pub mod spelling;
 mod terms;
-pub mod texts;
-mod values;
+pub mod values;
 
 // The keys of both texts.
 pub enum Key {

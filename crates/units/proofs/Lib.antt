@@ -1,5 +1,3 @@
-pub mod Decimals
-pub mod Exact
 pub mod Short
 pub mod Both
 pub mod Fits

@@ -11,9 +11,9 @@ use Rattle.reading.specs.NumberLines.{placed}
 use Rattle.text.specs.Lists.{Small}
 use Rattle.writing.specs.Wrote.{line}
 use Rattle.writing.proofs.Lists.{below-at}
-use Rattle.units.specs.Units.{decimalsMax, showUnits}
+use Rattle.decimals.specs.Units.{decimalsMax, showUnits}
 use Rattle.units.specs.Show.{toWord, unknownMax, showEnds, unknownLine}
-use Rattle.units.proofs.Decimals.{size-short}
+use Rattle.decimals.proofs.Decimals.{size-short}
 
 pub units-short : (v : ℤ) → length (showUnits v) ≤ 2 + digitsMax + decimalsMax
 unfolding showUnits

@@ -1,3 +1,1 @@
-pub mod Units
-pub mod Denotes
 pub mod Show

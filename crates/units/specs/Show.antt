@@ -16,7 +16,7 @@ use Rattle.result_write.specs.Ready.{Ready}
 use Rattle.reading.specs.NumberLines.{placed}
 use Rattle.job_form.specs.JobForm.{readJob}
 use Rattle.run.specs.Job.{runJob}
-use Rattle.units.specs.Units.{showUnits}
+use Rattle.decimals.specs.Units.{showUnits}
 
 -- `unknown `
 abbrev pub unknownWord : List ℕ

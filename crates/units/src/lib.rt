@@ -6,7 +6,6 @@ ghost use Rattle.faults.specs.Answer.{Leaves};
 ghost use Rattle.desk.specs.Desk.{runStatus, solveStatus};
 ghost use Rattle.units.specs.Show.{unitsOf, unitsRun, unitsText, TextFits};
 
-pub mod numbers;
 pub mod sides;
 
 use checks::result::check_result;

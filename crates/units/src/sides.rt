@@ -4,7 +4,7 @@ ghost use lib.IntN.{natAbs};
 ghost use Rattle.digits.specs.Number.{digitsMax};
 ghost use Rattle.writing.specs.Wrote.{placeMax, Wrote};
 ghost use Rattle.units.specs.Show.{unknownMax, showEnds, unknownLine, unknownLines, LinesFit};
-use crate::numbers::put_units;
+use decimals::put_units;
 use sizes::N;
 use writing::put_byte;
 use writing::put_bytes;

@@ -1,6 +1,6 @@
 -- `floodrafter_c::floodrafter_solve` meets its contract.
 use borrow.Author.Needs.{needs}
-use Rattle.floodrafter_c.proofs.Gives.{gives}
+use Rattle.c_answers.proofs.Gives.{gives}
 use Rattle.floodrafter_c.proofs.floodrafter_solve.Statement.{statement}
 use Rattle.floodrafter_c.proofs.floodrafter_solve.Tie as tie
 
