@@ -17,15 +17,15 @@ use Rattle.faults.specs.declared.Fault.{Fault}
 use Rattle.faults.specs.declared.Finding.{Finding}
 use Rattle.faults.specs.declared.Status.{Status}
 use Rattle.jobs.specs.Places.{expOf, termAt, rowAt}
-use Rattle.checks.specs.Terms.{alike, falls, inOrder, degree, goodTerm, goodPlace, goodTerms, goodCoefs}
+use Rattle.term_checks.specs.Terms.{alike, falls, inOrder, degree, goodTerm, goodPlace, goodTerms, goodCoefs}
 use Rattle.checks.specs.Checks.{goodMatrix}
 use Rattle.checks.specs.Checks.{numberCheck, unknownsCheck, pinCheck, lowCheck, highCheck}
 use Rattle.checks.specs.Checks.{inverseCheck, stepsCheck, equationCheck, rowCheck, sidedCheck, systemCheck}
 use Rattle.checks.specs.Checks.{lineCheck, jobLineStatus, systemLines, headLines, bodyLines, checkJob}
 use Rattle.checks.specs.Accepted.{Falls, GoodEquation, GoodSystem, GoodPin, Accepted}
-use Rattle.checks.proofs.RangeLaws.{and-left, and-right, one-to, to-one, each-all, is-within, within-is}
-use Rattle.checks.proofs.RangeLaws.{all-within, within-all, all-ordered, ordered-all}
-use Rattle.checks.proofs.TermLaws.{falls-lower, abs-zero}
+use Rattle.term_checks.proofs.RangeLaws.{and-left, and-right, one-to, to-one, each-all, is-within, within-is}
+use Rattle.term_checks.proofs.RangeLaws.{all-within, within-all, all-ordered, ordered-all}
+use Rattle.term_checks.proofs.TermLaws.{falls-lower, abs-zero}
 use Rattle.faults.proofs.Laws.{fine-first, fine-next, both-fine, unless-fine, fine-unless, fine-line, line-fine}
 use Rattle.faults.proofs.Laws.{done-first, done-next, both-done, lines-each, each-lines}
 use Rattle.checks.proofs.CheckLaws.{unknowns-fine}

@@ -8,7 +8,7 @@ use Rattle.faults.specs.declared.Finding.{Finding}
 use Rattle.faults.proofs.Laws.{fine-first, fine-next, unless-fine}
 use Rattle.checks.specs.Checks.{unknownsCheck}
 use Rattle.checks.specs.CheckResult.{countCheck}
-use Rattle.checks.proofs.RangeLaws.{one-to}
+use Rattle.term_checks.proofs.RangeLaws.{one-to}
 
 pub unknowns-fine : (n : ℕ) → unknownsCheck n ≡ Finding.Fine → (1 ≤ n) × (n ≤ nMax)
 unfolding unknownsCheck

@@ -1,5 +1,5 @@
 -- A result has no fault exactly where each of its values is within its size.
-use Prim.Native.Nat.{ℕ, _<_, _≤_}
+use Prim.Native.Nat.{_<_, _≤_}
 use mathlib.Core.Path.{_≡_, refl}
 use mathlib.Core.Bool.{true}
 use lib.IntN.{pos}
@@ -10,7 +10,7 @@ use Rattle.faults.specs.declared.Status.{Status}
 use Rattle.faults.proofs.Laws.{fine-first, fine-next, both-fine, unless-fine, fine-unless, fine-line, line-fine}
 use Rattle.faults.proofs.Laws.{done-first, done-next, both-done}
 use Rattle.jobs.specs.declared.Result.{Result}
-use Rattle.checks.specs.Ranges.{allWithin, allOrdered}
+use Rattle.term_checks.specs.Ranges.{allWithin, allOrdered}
 use Rattle.checks.specs.Checks.{numberCheck, stepsCheck, lowCheck, highCheck}
 use Rattle.checks.specs.CheckResult.{countCheck, countedCheck, resultCheck, resultLineStatus, checkResult}
 use Rattle.checks.proofs.CheckLaws.{count-fine}

@@ -1,5 +1,3 @@
-pub mod RangeLaws
-pub mod TermLaws
 pub mod CheckLaws
 pub mod AcceptedLaws
 pub mod CheckResultLaws

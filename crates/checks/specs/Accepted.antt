@@ -13,7 +13,7 @@ use Rattle.jobs.specs.declared.Term.{Term}
 use Rattle.jobs.specs.declared.Equation.{Equation}
 use Rattle.jobs.specs.declared.Job.{Job}
 use Rattle.jobs.specs.Places.{expOf, termAt, rowAt, equationAt}
-use Rattle.checks.specs.Terms.{degree}
+use Rattle.term_checks.specs.Terms.{degree}
 
 -- the first n numbers, each from -most to most
 abbrev pub AllWithin : List ℤ → ℕ → ℕ → Type 0

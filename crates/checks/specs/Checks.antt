@@ -21,8 +21,8 @@ use Rattle.faults.specs.declared.Finding.{Finding}
 use Rattle.faults.specs.declared.Status.{Status}
 use Rattle.jobs.specs.Lines.{jobNumber}
 use Rattle.jobs.specs.Places.{equationAt, rowAt}
-use Rattle.checks.specs.Ranges.{oneTo, isWithin, allWithin, allOrdered}
-use Rattle.checks.specs.Terms.{goodCoefs, goodTerms}
+use Rattle.term_checks.specs.Ranges.{oneTo, isWithin, allWithin, allOrdered}
+use Rattle.term_checks.specs.Terms.{goodCoefs, goodTerms}
 
 -- "n: 1 to 4"
 abbrev pub goodUnknowns : ℕ → Bool

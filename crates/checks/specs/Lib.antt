@@ -1,5 +1,3 @@
-pub mod Ranges
-pub mod Terms
 pub mod Checks
 pub mod Accepted
 pub mod CheckResult

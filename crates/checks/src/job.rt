@@ -1,10 +1,4 @@
 // The checks of a job's values, in the order of its text's lines. Places past n are not looked at.
-use crate::ranges::all_ordered;
-use crate::ranges::all_within;
-use crate::ranges::one_to;
-use crate::ranges::within;
-use crate::terms::good_coefs;
-use crate::terms::good_terms;
 use faults::Fault;
 use faults::Finding;
 use faults::Status;
@@ -25,6 +19,12 @@ use sizes::ENTRY;
 use sizes::N;
 use sizes::NUMBER;
 use sizes::STEPS;
+use term_checks::ranges::all_ordered;
+use term_checks::ranges::all_within;
+use term_checks::ranges::one_to;
+use term_checks::ranges::within;
+use term_checks::terms::good_coefs;
+use term_checks::terms::good_terms;
 ghost use mathlib.Core.Path.{_≡_};
 ghost use Prim.Native.Nat.{_≤_, _<_};
 ghost use Rattle.sizes.specs.Sizes.{nMax};

@@ -1,5 +1,3 @@
 // The checks of values handed over without text, in the order of their text's lines.
 pub mod job;
-pub mod ranges;
 pub mod result;
-pub mod terms;

@@ -13,7 +13,7 @@ pub mod ReadSettled
 pub mod WriteSettled
 pub mod DeskSettled
 pub mod ForCSettled
-pub mod FramingSettled
+pub mod BatchSettled
 pub mod UnitsSettled
 pub mod StepSettled
 pub mod PartsSettled

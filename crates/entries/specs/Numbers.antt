@@ -9,9 +9,9 @@ use lib.IntN.{ℤ, pos}
 use lib.ListN.{length, getD}
 use Rattle.sizes.specs.Sizes.{nMax, stepsMax, numberMax, endMax, entryMax, imageMax}
 use Rattle.jobs.specs.Places.{equationAt, rowAt}
-use Rattle.checks.specs.Ranges.{isWithin, allWithin, allOrdered}
+use Rattle.term_checks.specs.Ranges.{isWithin, allWithin, allOrdered}
 use Rattle.jobs.specs.Lines.{pinLines, systemNumber}
-use Rattle.checks.specs.Terms.{goodCoefs, goodTerms}
+use Rattle.term_checks.specs.Terms.{goodCoefs, goodTerms}
 use Rattle.checks.specs.Checks.{goodUnknowns, goodPin, goodEnds, goodEntries, goodMatrix}
 use Rattle.faults.specs.Words.{numberOf, lineOf}
 use Rattle.jobs.specs.declared.Kind.{Kind}

@@ -7,15 +7,15 @@ use Rattle.lists.specs.Loops.{tab, carry, allB}
 use Rattle.intervals.specs.Interval.{addI, negI, sumI, scaleI, wideI, outI, mulI, midI, meetsI, insideI, cutI, sameI}
 use Rattle.powers.specs.Powers.{holdsZero, squareRange, squareI, cubeI, powerI}
 use Rattle.matrices.specs.Products.{dotI, dOf, unitZ, entryB, bOf, eOf}
-use Rattle.checks.specs.Ranges.{oneTo, isWithin, allWithin, allOrdered}
-use Rattle.checks.specs.Terms.{alike, falls, inOrder, goodTerm, goodPlace, goodTerms, goodCoefs, degree}
+use Rattle.term_checks.specs.Ranges.{oneTo, isWithin, allWithin, allOrdered}
+use Rattle.term_checks.specs.Terms.{alike, falls, inOrder, goodTerm, goodPlace, goodTerms, goodCoefs, degree}
 use Rattle.faults.specs.Checks.{badUnless, firstOf, onLine, andThen, linesOf}
 use Rattle.checks.specs.Checks.{goodMatrix, numberCheck, unknownsCheck, pinCheck}
 use Rattle.checks.specs.Checks.{lowCheck, highCheck, inverseCheck, stepsCheck}
 use Rattle.checks.specs.Checks.{equationCheck, rowCheck, sidedCheck, systemCheck, lineCheck}
 use Rattle.checks.specs.Checks.{jobLineStatus, systemLines, headLines, bodyLines, checkJob}
-use Rattle.systems.specs.Terms.{factorI, termOver, equationOver, lowered, termSlope, slopeOver}
-use Rattle.systems.specs.Fractions.{power, termNum, equationNum}
+use Rattle.slopes.specs.Terms.{factorI, termOver, equationOver, lowered, termSlope, slopeOver}
+use Rattle.slopes.specs.Fractions.{power, termNum, equationNum}
 use Rattle.systems.specs.Kinds.{unitE, vectorE, linearEquation, eigenEquation, equationOf}
 use Rattle.step.specs.Step.{imageOf, imageBox}
 use Rattle.step.specs.Decide.{allMeet, allInside, cutSame, cutBox, decideOf, stepOf}

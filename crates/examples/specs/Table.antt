@@ -8,8 +8,8 @@ use Rattle.intervals.specs.declared.Interval.{Interval}
 use Rattle.intervals.specs.Interval.{pointI, zeroI, mulI, midI}
 use Rattle.intervals.specs.Places.{numberAt, sideAt}
 use Rattle.powers.specs.Powers.{powerI}
-use Rattle.systems.specs.Terms.{equationOver}
-use Rattle.systems.specs.Fractions.{equationNum}
+use Rattle.slopes.specs.Terms.{equationOver}
+use Rattle.slopes.specs.Fractions.{equationNum}
 use Rattle.systems.specs.Kinds.{equationOf}
 use Rattle.step.specs.Step.{imageOf}
 use Rattle.step.specs.Values.{inverseOf, startOf}

@@ -3,8 +3,8 @@ use crate::help;
 use crate::outcomes::Outcome;
 use crate::people::How;
 use crate::streams::say;
-use requests::Op;
 use libc::STDERR_FILENO;
+use requests::Op;
 use text::same_bytes;
 
 // What reads a FILE.

@@ -20,7 +20,7 @@ use Rattle.jobs.specs.declared.JobLine.{JobLine}
 use Rattle.jobs.specs.Lines.{afterN}
 use Rattle.jobs.specs.Parts.{withPin, withLo, lastPin}
 use Rattle.checks.specs.Checks.{pinCheck, lowCheck, lineCheck}
-use Rattle.checks.proofs.RangeLaws.{to-one}
+use Rattle.term_checks.proofs.RangeLaws.{to-one}
 use Rattle.reading.specs.Got.{Got, after}
 use Rattle.reading.specs.Lines.{Next}
 use Rattle.reading.specs.NumberLines.{placed}

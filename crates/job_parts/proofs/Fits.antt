@@ -5,7 +5,7 @@ use mathlib.Core.Bool.{true, _&&_}
 use lib.Dec.{leb}
 use borrow.Author.Tests.{leb-true, le-leb}
 use Rattle.sizes.specs.Sizes.{textMax}
-use Rattle.checks.proofs.RangeLaws.{and-left, and-right}
+use Rattle.term_checks.proofs.RangeLaws.{and-left, and-right}
 use Rattle.next_line.specs.Limits.{readFits}
 use Rattle.next_line.proofs.Rooms.{ReadFits}
 use Rattle.next_line.proofs.Fits.{read-fits, fits-read}

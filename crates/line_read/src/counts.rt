@@ -2,7 +2,6 @@
 use crate::CountLine;
 use crate::SmallLine;
 use checks::job::unknowns_check;
-use checks::ranges::one_to;
 use faults::Fault;
 use faults::Finding;
 use faults::bad_unless;
@@ -12,6 +11,7 @@ use scan::lines::count_at;
 use scan::lines::key_at;
 use sizes::NUMBER;
 use sizes::STEPS;
+use term_checks::ranges::one_to;
 use term_read::digit_at;
 use text::Count;
 ghost use mathlib.Core.Path.{_≡_};

@@ -12,13 +12,13 @@ use lib.Signed.{leZ}
 use Rattle.lists.proofs.All.{all-cong}
 use Rattle.lists.proofs.Tab.{getD-tab}
 use Rattle.checks.specs.Accepted.{AllWithin}
-use Rattle.checks.specs.Ranges.{isWithin, allWithin, allOrdered}
+use Rattle.term_checks.specs.Ranges.{isWithin, allWithin, allOrdered}
 use Rattle.faults.specs.declared.Fault.{Fault}
 use Rattle.reading.specs.NumberLines.{placed}
 use Rattle.reading.proofs.NumberLines.{below-tab}
 use Rattle.digits.specs.Number.{digitsMax}
 use Rattle.text.specs.Lists.{Below, Small}
-use Rattle.checks.proofs.RangeLaws.{is-within, all-within}
+use Rattle.term_checks.proofs.RangeLaws.{is-within, all-within}
 use Rattle.faults.specs.declared.Finding.{Finding}
 use Rattle.faults.specs.Checks.{badUnless, firstOf}
 use Rattle.checks.specs.Checks.{numberCheck, stepsCheck, lowCheck, highCheck, rowCheck, sidedCheck}

@@ -15,8 +15,8 @@ use Rattle.faults.specs.declared.Finding.{Finding}
 use Rattle.faults.specs.Checks.{badUnless, firstOf}
 use Rattle.faults.proofs.Laws.{fine-first, fine-next, unless-fine}
 use Rattle.jobs.specs.Places.{expOf, termAt}
-use Rattle.checks.specs.Terms.{degree, goodTerm, goodPlace, goodCoefs, goodTerms}
-use Rattle.checks.proofs.RangeLaws.{is-within}
+use Rattle.term_checks.specs.Terms.{degree, goodTerm, goodPlace, goodCoefs, goodTerms}
+use Rattle.term_checks.proofs.RangeLaws.{is-within}
 use Rattle.term_write.proofs.Terms.{digit-low}
 use Rattle.checks.specs.Checks.{equationCheck}
 use Rattle.jobs.specs.declared.Equation.{Equation}

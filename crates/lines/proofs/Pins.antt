@@ -15,9 +15,9 @@ use Rattle.faults.specs.declared.Finding.{Finding}
 use Rattle.faults.specs.Checks.{badUnless}
 use Rattle.faults.proofs.Laws.{unless-fine}
 use Rattle.jobs.specs.declared.Kind.{Kind}
-use Rattle.checks.specs.Ranges.{oneTo}
+use Rattle.term_checks.specs.Ranges.{oneTo}
 use Rattle.checks.specs.Checks.{goodPin, pinCheck}
-use Rattle.checks.proofs.RangeLaws.{and-right, one-to}
+use Rattle.term_checks.proofs.RangeLaws.{and-right, one-to}
 use Rattle.reading.specs.Got.{after, passing, Told}
 use Rattle.reading.proofs.Told.{told-map, told-passing}
 use Rattle.reading.proofs.NumberLines.{count-told}

@@ -20,9 +20,9 @@ use Rattle.jobs.specs.Places.{rowAt}
 use Rattle.jobs.specs.Zero.{zeroRow}
 use Rattle.checks.specs.Accepted.{AllWithin}
 use Rattle.checks.specs.Checks.{goodMatrix, inverseCheck}
-use Rattle.checks.specs.Ranges.{allWithin}
+use Rattle.term_checks.specs.Ranges.{allWithin}
 use Rattle.jobs.specs.declared.Row.{Row}
-use Rattle.checks.proofs.RangeLaws.{all-within}
+use Rattle.term_checks.proofs.RangeLaws.{all-within}
 use Rattle.reading.specs.NumberLines.{placed}
 use Rattle.reading.proofs.NumberLines.{below-tab}
 use Rattle.lines.specs.Places.{cells, rowsOf, liveRows}

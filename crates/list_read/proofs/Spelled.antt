@@ -11,7 +11,7 @@ use Rattle.faults.specs.declared.Finding.{Finding}
 use Rattle.faults.specs.Checks.{badUnless, firstOf}
 use Rattle.jobs.specs.declared.Equation.{Equation}
 use Rattle.checks.specs.Checks.{equationCheck}
-use Rattle.checks.specs.Terms.{goodTerms}
+use Rattle.term_checks.specs.Terms.{goodTerms}
 use Rattle.text.specs.declared.Numbers.{Numbers}
 use Rattle.term_text.specs.declared.Terms.{Terms}
 use Rattle.term_text.specs.Terms.{readEquation}

@@ -5,7 +5,7 @@ use lib.Dec.{leb}
 use borrow.Author.Tests.{leb-true, le-leb}
 use Rattle.sizes.specs.Sizes.{nMax}
 use Rattle.faults.specs.Words.{faultMax}
-use Rattle.checks.proofs.RangeLaws.{and-left, and-right}
+use Rattle.term_checks.proofs.RangeLaws.{and-left, and-right}
 use Rattle.next_line.specs.declared.Read.{Read}
 use Rattle.next_line.specs.Limits.{placeMax, lineMax, kindMax, readFits}
 use Rattle.next_line.proofs.Rooms.{ReadFits}

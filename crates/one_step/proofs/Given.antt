@@ -8,11 +8,11 @@ use Rattle.intervals.specs.Ranges.{InI}
 use Rattle.intervals.specs.Places.{sideAt}
 use Rattle.faults.proofs.Laws.{fine-first, fine-next, both-fine, unless-fine, fine-unless, fine-line, line-fine}
 use Rattle.faults.proofs.Laws.{done-first, done-next}
-use Rattle.checks.proofs.RangeLaws.{all-within, within-all, all-ordered, ordered-all}
+use Rattle.term_checks.proofs.RangeLaws.{all-within, within-all, all-ordered, ordered-all}
 use Rattle.faults.specs.Checks.{firstOf}
 use Rattle.checks.specs.Checks.{lowCheck, highCheck, checkJob}
 use Rattle.checks.proofs.CheckLaws.{unknowns-fine}
-use Rattle.systems.specs.Ranges.{BoxIn}
+use Rattle.slopes.specs.Ranges.{BoxIn}
 use Rattle.checks.proofs.AcceptedLaws.{check-done}
 use Rattle.step.specs.Values.{sideOf, boxOf}
 use Rattle.step.proofs.Given.{box-at, box-in}

@@ -8,7 +8,7 @@ use Rattle.intervals.specs.Places.{sideAt}
 use Rattle.intervals.specs.Ranges.{InI}
 use Rattle.intervals.proofs.Ranges.{in-more}
 use Rattle.faults.proofs.Laws.{fine-first, fine-next}
-use Rattle.systems.specs.Ranges.{BoxIn}
+use Rattle.slopes.specs.Ranges.{BoxIn}
 use Rattle.step.specs.Decide.{decideOf}
 use Rattle.step.specs.Values.{sideOf, boxOf}
 use Rattle.step.proofs.Decisions.{Decided, none, unique, stalled, next, decided}

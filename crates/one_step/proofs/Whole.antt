@@ -1,19 +1,18 @@
 -- The two operations make up the step: an image is always taken, and what it decides is the step's decision.
 use mathlib.Core.Path.{_≡_, refl, sym, ap, _∙_}
 use mathlib.Core.List.{List}
-use Prim.Native.Nat.{ℕ, _≤_, _<_}
+use Prim.Native.Nat.{ℕ, _<_}
 use lib.IntN.{ℤ}
 use lib.Signed.{_≤ℤ_}
-use Rattle.sizes.specs.Sizes.{nMax, endMax, imageMax}
+use Rattle.sizes.specs.Sizes.{endMax, imageMax}
 use Rattle.sizes.proofs.Sums.{image-room}
 use Rattle.intervals.specs.Interval.{cutI}
 use Rattle.intervals.specs.Places.{sideAt, vectorOf}
-use Rattle.intervals.specs.Ranges.{InI}
 use Rattle.intervals.proofs.Places.{side-made}
 use Rattle.intervals.proofs.Ranges.{in-more}
 use Rattle.faults.proofs.Laws.{both-fine, fine-line, done-next}
 use Rattle.checks.specs.Accepted.{Accepted}
-use Rattle.checks.proofs.AcceptedLaws.{Clean, check-clean, check-done}
+use Rattle.checks.proofs.AcceptedLaws.{check-clean, check-done}
 use Rattle.systems.specs.Kinds.{equationOf}
 use Rattle.systems.proofs.Systems.{system-in}
 use Rattle.step.specs.Step.{imageOf, imageBox}

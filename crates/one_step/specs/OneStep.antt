@@ -4,7 +4,7 @@ use Prim.Native.Nat.{ℕ}
 use lib.IntN.{ℤ, pos}
 use Rattle.sizes.specs.Sizes.{endMax, imageMax}
 use Rattle.faults.specs.Checks.{badUnless, firstOf, onLine, andThen}
-use Rattle.checks.specs.Ranges.{allWithin, allOrdered}
+use Rattle.term_checks.specs.Ranges.{allWithin, allOrdered}
 use Rattle.checks.specs.Checks.{unknownsCheck, checkJob}
 use Rattle.jobs.specs.Zero.{zeroEnds}
 use Rattle.systems.specs.Kinds.{equationOf}

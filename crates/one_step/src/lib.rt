@@ -2,8 +2,6 @@
 // and K decide. Every value is taken: what is handed in is checked first.
 use checks::job::check_job;
 use checks::job::unknowns_check;
-use checks::ranges::all_ordered;
-use checks::ranges::all_within;
 use faults::Fault;
 use faults::Finding;
 use faults::Status;
@@ -22,6 +20,8 @@ use sizes::IMAGE;
 use sizes::N;
 use step::Move;
 use step::values;
+use term_checks::ranges::all_ordered;
+use term_checks::ranges::all_within;
 ghost use mathlib.Core.Path.{_≡_};
 ghost use Prim.Native.Nat.{_≤_};
 ghost use Rattle.sizes.specs.Sizes.{nMax};
@@ -73,8 +73,8 @@ fn image_box(eqs: [Equation; N], c: [[i64; N]; N], x: [Interval; N], n: usize) -
     ensures { λ r. ⌜ r ≡ imageBox n (equationAt eqs) (entryAt c) x ⌝ }
 {
     let m = step::middles(x, n);
-    let f = systems::values_over(eqs, m, n);
-    let s = systems::slopes_over(eqs, x, n);
+    let f = slopes::values_over(eqs, m, n);
+    let s = slopes::slopes_over(eqs, x, n);
     step::image(c, x, m, f, s, n)
 }
 

@@ -7,7 +7,7 @@ use lib.IntN.{ℤ, pos}
 use Rattle.digits.specs.Show.{showMagnitude, showNumber}
 use Rattle.sizes.specs.Sizes.{numberMax}
 use Rattle.text.specs.Words.{jobKey, kindKey, nKey, pinKey, loKey, hiKey, invKey, stepsKey, eqKey, rowKey, verdictKey}
-use Rattle.checks.specs.Ranges.{isWithin}
+use Rattle.term_checks.specs.Ranges.{isWithin}
 use Rattle.slips.specs.declared.Key.{Key}
 use Rattle.slips.specs.declared.Form.{Form}
 use Rattle.slips.specs.declared.Field.{Field}

@@ -1,11 +1,11 @@
 // What sentences beside a fault are made of: counts, keys, what a line must be, what is wrong with a number.
-use checks::ranges::within;
 use digits::DIGITS;
 use sizes::NUMBER;
 use slips::Field;
 use slips::Form;
 use slips::Key;
 use slips::Wrong;
+use term_checks::ranges::within;
 use writing::put_bytes;
 use writing::put_magnitude;
 use writing::put_number;

@@ -14,7 +14,7 @@ use Rattle.jobs.specs.declared.Job.{Job}
 use Rattle.checks.specs.Checks.{checkJob}
 use Rattle.checks.proofs.AcceptedLaws.{check-done}
 use Rattle.systems.specs.Kinds.{equationOf}
-use Rattle.systems.specs.Ranges.{BoxIn}
+use Rattle.slopes.specs.Ranges.{BoxIn}
 use Rattle.step.specs.declared.Move.{Move}
 use Rattle.step.specs.declared.Decision.{Decision}
 use Rattle.step.specs.Step.{imageBox}

@@ -26,8 +26,8 @@ use Rattle.intervals.specs.Fraction.{In}
 use Rattle.intervals.proofs.Hold.{hold-point, hold-add, hold-neg, hold-order, hold-low, hold-high}
 use Rattle.matrices.specs.Products.{bOf, eOf}
 use Rattle.matrices.proofs.Hold.{hold-e}
-use Rattle.systems.specs.Fractions.{InBox, unitsOf, power, DegreesIn, equationNum}
-use Rattle.systems.proofs.Factors.{power-pos, units-pos}
+use Rattle.slopes.specs.Fractions.{InBox, unitsOf, power, DegreesIn, equationNum}
+use Rattle.slopes.proofs.Factors.{power-pos, units-pos}
 use Rattle.step.specs.Step.{middleOf, offsetOf, slopeOf, imageOf}
 use Rattle.step.specs.Newton.{newtonScale, newtonNum}
 use Rattle.step.specs.Meanings.{Strictly}

@@ -16,14 +16,14 @@ use Rattle.intervals.specs.Fraction.{In}
 use Rattle.intervals.specs.Interval.{addI, negI, sumI, scaleI, wideI, outI, mulI, midI, meetsI, insideI}
 use Rattle.powers.specs.Powers.{powerI}
 use Rattle.matrices.specs.Products.{dotI, dOf, unitZ, entryB, bOf, eOf}
-use Rattle.checks.specs.Ranges.{oneTo, isWithin, allWithin, allOrdered}
+use Rattle.term_checks.specs.Ranges.{oneTo, isWithin, allWithin, allOrdered}
 use Rattle.faults.specs.Checks.{badUnless, firstOf, onLine, andThen, linesOf}
 use Rattle.checks.specs.Checks.{goodMatrix, numberCheck, unknownsCheck, pinCheck}
 use Rattle.checks.specs.Checks.{lowCheck, highCheck, inverseCheck, stepsCheck}
 use Rattle.checks.specs.Checks.{rowCheck, sidedCheck, systemCheck, lineCheck}
 use Rattle.checks.specs.Checks.{jobLineStatus, systemLines, headLines, bodyLines, checkJob}
-use Rattle.systems.specs.Terms.{factorI, termOver, equationOver, lowered, termSlope, slopeOver}
-use Rattle.systems.specs.Fractions.{unitsOf}
+use Rattle.slopes.specs.Terms.{factorI, termOver, equationOver, lowered, termSlope, slopeOver}
+use Rattle.slopes.specs.Fractions.{unitsOf}
 use Rattle.systems.specs.Kinds.{rowOf, unitE, linearEquation, equationOf}
 use Rattle.step.specs.Step.{imageOf, imageBox}
 use Rattle.step.specs.Decide.{allMeet, allInside, decideOf, stepOf}

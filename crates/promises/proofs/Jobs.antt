@@ -13,10 +13,10 @@ use Rattle.integers.proofs.Order.{cancel-r}
 use Rattle.integers.proofs.Ring.{lit, _⊖_, _⊗_, ring}
 use Rattle.intervals.specs.Places.{sideAt, numberAt}
 use Rattle.checks.specs.Accepted.{GoodSystem, Accepted}
-use Rattle.systems.specs.Fractions.{unitsOf, DegreesIn}
+use Rattle.slopes.specs.Fractions.{unitsOf, DegreesIn}
 use Rattle.systems.specs.Kinds.{pinned, rowOf, equationBy, equationOf}
 use Rattle.systems.specs.Formulas.{linearNum, coordinate, eigenNum, formulaNum}
-use Rattle.systems.proofs.Factors.{power-pos, units-pos}
+use Rattle.slopes.proofs.Factors.{power-pos, units-pos}
 use Rattle.intervals.specs.Interval.{mark}
 use Rattle.systems.proofs.Formulas.{equation-is, equation-degrees}
 use Rattle.step.specs.Values.{startOf, inverseOf}

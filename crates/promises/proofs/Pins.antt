@@ -30,7 +30,7 @@ use Rattle.jobs.specs.declared.JobLine.{JobLine}
 use Rattle.jobs.specs.declared.Equation.{Equation}
 use Rattle.jobs.specs.Lines.{pinStands, pinLines, afterN}
 use Rattle.jobs.specs.Parts.{withPin}
-use Rattle.checks.specs.Ranges.{oneTo}
+use Rattle.term_checks.specs.Ranges.{oneTo}
 use Rattle.checks.specs.Checks.{pinCheck, lineCheck, systemCheck, jobLineStatus}
 use Rattle.checks.specs.Checks.{systemLines, headLines, bodyLines, checkJob}
 use Rattle.lines.specs.Found.{found}

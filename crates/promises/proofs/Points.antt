@@ -12,7 +12,7 @@ use Rattle.integers.proofs.Ring.{_⊖_, _⊗_, ring}
 use Rattle.integers.proofs.Order.{mul-lt-r, nonneg, pos-mul}
 use Rattle.integers.proofs.Absolute.{abs-pos, abs-mul}
 use Rattle.intervals.specs.Places.{sideAt}
-use Rattle.systems.specs.Fractions.{InBox, power, DegreesIn}
+use Rattle.slopes.specs.Fractions.{InBox, power, DegreesIn}
 use Rattle.step.specs.Step.{imageOf}
 use Rattle.step.specs.Newton.{newtonScale, newtonDen, newtonNum}
 use Rattle.step.specs.Meanings.{Strictly}

@@ -4,7 +4,7 @@
 use mathlib.Core.Path.{_≡_, ap}
 use mathlib.Core.List.{List, []}
 use mathlib.Core.Bool.{true}
-use Prim.Native.Nat.{ℕ, suc, _+_, _-_, _≤_, _<_}
+use Prim.Native.Nat.{ℕ, suc, _-_, _≤_, _<_}
 use lib.IntN.{ℤ, pos, _+ℤ_, _-ℤ_, _*ℤ_}
 use lib.ListN.{length, getD}
 use Rattle.sizes.specs.Sizes.{textMax, degreeMax}
@@ -29,7 +29,7 @@ use Rattle.checks.specs.Checks.{pinCheck, checkJob}
 use Rattle.checks.proofs.AcceptedLaws.{check-done}
 use Rattle.jobs.proofs.LineLaws.{after-n-fourth}
 use Rattle.lines.specs.Lines.{pinOf}
-use Rattle.systems.specs.Fractions.{unitsOf, power, equationNum}
+use Rattle.slopes.specs.Fractions.{unitsOf, power, equationNum}
 use Rattle.systems.specs.Kinds.{pinned, rowOf, equationOf}
 use Rattle.systems.specs.Formulas.{coordinate, eigenNum, formulaNum}
 use Rattle.systems.proofs.Formulas as formulas

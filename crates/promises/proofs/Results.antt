@@ -1,11 +1,11 @@
 -- The result of a run has no fault, from whatever box in range it began: its box lies in that one, with its ends in
 -- order, and no more steps are counted than were allowed. Its text is no longer than a text may be.
-use Prim.Native.Nat.{ℕ, _+_, _≤_, _<_}
+use Prim.Native.Nat.{ℕ, _≤_, _<_}
 use native.Mathlib.Omega.{arith}
 use mathlib.Core.Path.{_≡_, refl}
 use mathlib.Core.List.{List}
 use lib.ListN.{length, getD}
-use lib.IntN.{ℤ, pos}
+use lib.IntN.{pos}
 use Rattle.sizes.specs.Sizes.{nMax, textMax, stepsMax, endMax}
 use Rattle.integers.specs.Ranges.{Within}
 use Rattle.integers.proofs.Parts.{zorder}
@@ -16,13 +16,13 @@ use Rattle.checks.specs.Checks.{checkJob}
 use Rattle.checks.specs.CheckResult.{checkResult}
 use Rattle.checks.specs.Accepted.{Accepted}
 use Rattle.checks.proofs.AcceptedLaws.{check-done}
-use Rattle.checks.proofs.RangeLaws.{within-all, ordered-all}
+use Rattle.term_checks.proofs.RangeLaws.{within-all, ordered-all}
 use Rattle.checks.proofs.CheckResultLaws.{Sound, sound, unfaulted}
 use Rattle.intervals.specs.declared.Interval.{Interval}
 use Rattle.jobs.specs.declared.Job.{Job}
 use Rattle.faults.specs.declared.Status.{Status}
 use Rattle.systems.specs.Kinds.{equationOf}
-use Rattle.systems.specs.Ranges.{BoxIn}
+use Rattle.slopes.specs.Ranges.{BoxIn}
 use Rattle.step.specs.Values.{startOf, inverseOf, lowEnds, highEnds}
 use Rattle.step.proofs.Given.{start-in}
 use Rattle.run.specs.declared.Outcome.{Outcome}

@@ -18,7 +18,7 @@ use Rattle.intervals.proofs.Meeting.{hold-cut}
 use Rattle.intervals.proofs.Inclusion.{inside-trans}
 use Rattle.jobs.specs.declared.Equation.{Equation}
 use Rattle.jobs.specs.declared.Verdict.{Verdict}
-use Rattle.systems.specs.Fractions.{InBox, DegreesIn, equationNum}
+use Rattle.slopes.specs.Fractions.{InBox, DegreesIn, equationNum}
 use Rattle.step.specs.Step.{imageOf, imageBox}
 use Rattle.step.specs.Newton.{newtonDen, newtonNum}
 use Rattle.step.specs.Decide.{allMeet, cutBox, decideOf, stepOf}

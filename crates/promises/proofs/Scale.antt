@@ -17,10 +17,10 @@ use Rattle.integers.proofs.Order.{pos-mul}
 use Rattle.integers.proofs.Sums.{sum-cong, sum-mul-r}
 use Rattle.intervals.specs.Interval.{mark}
 use Rattle.intervals.proofs.Hold.{hold-raise}
-use Rattle.systems.specs.Terms.{coefOf, expsOf}
-use Rattle.checks.specs.Terms.{degree}
-use Rattle.systems.specs.Fractions.{InBox, unitsOf, power, termNum, DegreesIn, equationNum}
-use Rattle.systems.proofs.Factors.{power-pos, power-add, times-one}
+use Rattle.slopes.specs.Terms.{coefOf, expsOf}
+use Rattle.term_checks.specs.Terms.{degree}
+use Rattle.slopes.specs.Fractions.{InBox, unitsOf, power, termNum, DegreesIn, equationNum}
+use Rattle.slopes.proofs.Factors.{power-pos, power-add, times-one}
 use Rattle.step.specs.Newton.{newtonScale, newtonDen, newtonNum}
 use Rattle.intervals.specs.declared.Interval.{Interval}
 use Rattle.jobs.specs.declared.Equation.{Equation}

@@ -10,7 +10,7 @@ use Rattle.sizes.specs.Sizes.{nMax}
 use Rattle.integers.specs.Absolute.{absℤ}
 use Rattle.intervals.specs.Places.{sideAt}
 use Rattle.intervals.specs.Fraction.{Inside}
-use Rattle.systems.specs.Fractions.{InBox, DegreesIn, equationNum}
+use Rattle.slopes.specs.Fractions.{InBox, DegreesIn, equationNum}
 use Rattle.step.specs.Step.{imageBox}
 use Rattle.step.specs.Newton.{newtonScale, newtonDen, newtonNum}
 use Rattle.step.specs.Meanings.{Empty, Strictly, Unchanged}

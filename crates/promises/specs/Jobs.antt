@@ -6,7 +6,7 @@ use lib.IntN.{pos, _*ℤ_}
 use Rattle.integers.specs.Sums.{sumTo}
 use Rattle.intervals.specs.Interval.{mark}
 use Rattle.intervals.specs.Places.{numberAt}
-use Rattle.systems.specs.Fractions.{unitsOf}
+use Rattle.slopes.specs.Fractions.{unitsOf}
 use Rattle.systems.specs.Kinds.{pinned, rowOf}
 use Rattle.systems.specs.Formulas.{coordinate, formulaNum}
 use Rattle.step.specs.Values.{startOf}

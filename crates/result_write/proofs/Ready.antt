@@ -6,7 +6,7 @@ use lib.ListN.{length}
 use Rattle.sizes.specs.Sizes.{nMax, textMax, endMax}
 use Rattle.digits.specs.Number.{digitsMax}
 use Rattle.checks.specs.CheckResult.{checkResult}
-use Rattle.checks.proofs.RangeLaws.{all-within}
+use Rattle.term_checks.proofs.RangeLaws.{all-within}
 use Rattle.checks.proofs.CheckResultLaws.{Sound, sound}
 use Rattle.jobs.specs.declared.Result.{Result}
 use Rattle.jobs.specs.declared.ResultLine.{ResultLine}

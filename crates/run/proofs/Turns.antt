@@ -9,7 +9,7 @@ use lib.Signed.{_≤ℤ_}
 use Rattle.intervals.specs.declared.Interval.{Interval}
 use Rattle.intervals.specs.Places.{sideAt}
 use Rattle.intervals.proofs.Places.{side-made}
-use Rattle.systems.specs.Ranges.{BoxIn}
+use Rattle.slopes.specs.Ranges.{BoxIn}
 use Rattle.jobs.specs.declared.Equation.{Equation}
 use Rattle.jobs.specs.declared.Verdict.{Verdict}
 use Rattle.step.specs.declared.Move.{Move}

@@ -16,7 +16,7 @@ ghost use Rattle.intervals.specs.Places.{entryAt, sideAt};
 ghost use Rattle.jobs.specs.Places.{equationAt};
 ghost use Rattle.checks.specs.Checks.{checkJob};
 ghost use Rattle.faults.specs.declared.Status.{Status};
-ghost use Rattle.systems.specs.Ranges.{BoxIn};
+ghost use Rattle.slopes.specs.Ranges.{BoxIn};
 ghost use Rattle.step.specs.Ranges.{StepIn};
 ghost use Rattle.run.specs.Run.{outcome, runOf};
 ghost use Rattle.run.specs.Job.{runFrom, outcomeOf, resultOf, runJob};
@@ -62,8 +62,8 @@ pub fn run_steps(
         let mut s = [[Interval { lo: 0, hi: 0 }; N]; N];
         for i in 0..n {
             let q = eqs[i];
-            f[i] = systems::equation_over(q, m, n);
-            s[i] = systems::slope_row(q, x, n);
+            f[i] = slopes::equation_over(q, m, n);
+            s[i] = slopes::slope_row(q, x, n);
         }
         let k = step::image(c, x, m, f, s, n);
         let d = step::decide(x, k, n);

@@ -15,7 +15,7 @@ use Rattle.intervals.specs.Places.{sideAt}
 use Rattle.intervals.specs.Fraction.{In, Inside}
 use Rattle.intervals.proofs.Places.{side-made}
 use Rattle.intervals.proofs.Meeting.{cut-order, hold-meets}
-use Rattle.checks.proofs.RangeLaws.{each-all}
+use Rattle.term_checks.proofs.RangeLaws.{each-all}
 use Rattle.intervals.specs.declared.Interval.{Interval}
 use Rattle.jobs.specs.declared.Equation.{Equation}
 use Rattle.step.specs.declared.Move.{Move}

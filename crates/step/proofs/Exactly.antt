@@ -15,7 +15,7 @@ use Rattle.integers.proofs.Least.{min-l, min-r, min-both, max-l, max-r, max-bot
 use Rattle.integers.proofs.Order.{ltZ-true, ltZ-false, leZ-false, le-leZ, lt-leZ}
 use Rattle.lists.specs.Loops.{both, allB}
 use Rattle.lists.proofs.All.{all-each, all-stop, both-fst, both-snd}
-use Rattle.checks.proofs.RangeLaws.{each-all}
+use Rattle.term_checks.proofs.RangeLaws.{each-all}
 use Rattle.intervals.specs.Interval.{meetsI, insideI, cutI, sameI}
 use Rattle.intervals.specs.Places.{sideAt}
 use Rattle.intervals.specs.declared.Interval.{Interval}

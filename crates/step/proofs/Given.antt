@@ -16,9 +16,10 @@ use Rattle.jobs.specs.Places.{rowAt, equationAt}
 use Rattle.checks.specs.Checks.{checkJob}
 use Rattle.checks.specs.Accepted.{GoodEquation, GoodSystem, Accepted}
 use Rattle.checks.proofs.AcceptedLaws.{check-done}
-use Rattle.systems.specs.Terms.{equationOver, slopeOver}
+use Rattle.slopes.specs.Terms.{equationOver, slopeOver}
 use Rattle.systems.specs.Kinds.{equationOf, equationsOf}
-use Rattle.systems.specs.Ranges.{BoxIn, EquationIn, PartsIn, JobIn}
+use Rattle.slopes.specs.Ranges.{BoxIn, EquationIn}
+use Rattle.systems.specs.Parts.{PartsIn, JobIn}
 use Rattle.systems.proofs.Systems.{equations-at, equations-in}
 use Rattle.matrices.proofs.Live.{d-cong, b-cong, e-cong}
 use Rattle.intervals.specs.declared.Interval.{Interval}

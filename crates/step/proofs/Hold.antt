@@ -18,10 +18,10 @@ use Rattle.intervals.proofs.Hold.{hold-const, hold-add, hold-neg, hold-order, h
 use Rattle.intervals.proofs.Places.{side-made}
 use Rattle.matrices.specs.Products.{dOf, bOf, eOf}
 use Rattle.matrices.proofs.Hold.{hold-d, hold-b, hold-e}
-use Rattle.systems.specs.Fractions.{InBox, unitsOf, power, DegreesIn, equationNum}
-use Rattle.systems.proofs.Factors.{power-pos, units-pos}
-use Rattle.systems.proofs.Values.{hold-equation}
-use Rattle.systems.proofs.Slopes.{slopeNum, slopes-hold}
+use Rattle.slopes.specs.Fractions.{InBox, unitsOf, power, DegreesIn, equationNum}
+use Rattle.slopes.proofs.Factors.{power-pos, units-pos}
+use Rattle.slopes.proofs.Values.{hold-equation}
+use Rattle.slopes.proofs.Slopes.{slopeNum, slopes-hold}
 use Rattle.intervals.specs.declared.Interval.{Interval}
 use Rattle.jobs.specs.declared.Equation.{Equation}
 use Rattle.step.specs.Step.{middleOf, offsetOf, valueOf, slopeOf, imageOf, imageBox}

@@ -14,10 +14,10 @@ use Rattle.intervals.proofs.Ranges.{in-point, in-mid}
 use Rattle.intervals.proofs.Around.{around-offset}
 use Rattle.matrices.specs.Products.{bOf}
 use Rattle.matrices.proofs.Live.{d-cong, b-cong, e-cong}
-use Rattle.systems.specs.Terms.{equationOver, slopeOver, valuesOver, slopeRow, slopesOver}
-use Rattle.systems.specs.Ranges.{BoxIn}
-use Rattle.systems.proofs.Ranges.{in-equation, in-slope}
-use Rattle.systems.proofs.Places.{equation-cong}
+use Rattle.slopes.specs.Terms.{equationOver, slopeOver, valuesOver, slopeRow, slopesOver}
+use Rattle.slopes.specs.Ranges.{BoxIn}
+use Rattle.slopes.proofs.Ranges.{in-equation, in-slope}
+use Rattle.slopes.proofs.Places.{equation-cong}
 use Rattle.intervals.specs.declared.Interval.{Interval}
 use Rattle.jobs.specs.declared.Equation.{Equation}
 use Rattle.step.specs.Step.{middleOf, offsetOf, valueOf, slopeOf, imageFrom, imageOf}

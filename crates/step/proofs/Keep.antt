@@ -10,7 +10,7 @@ use Rattle.lists.proofs.Tab.{getD-tab}
 use Rattle.intervals.specs.Interval.{zeroI}
 use Rattle.intervals.specs.Places.{sideAt}
 use Rattle.intervals.proofs.Ranges.{in-cut}
-use Rattle.systems.specs.Ranges.{BoxIn}
+use Rattle.slopes.specs.Ranges.{BoxIn}
 use Rattle.intervals.specs.declared.Interval.{Interval}
 use Rattle.step.specs.declared.Move.{Move}
 use Rattle.step.specs.Decide.{allMeet, cutBox, decideOf}

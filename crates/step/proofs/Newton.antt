@@ -16,9 +16,9 @@ use Rattle.integers.proofs.Order.{pos-mul}
 use Rattle.integers.proofs.Sums.{sum-cong, sum-sub, sum-assoc, sum-none}
 use Rattle.intervals.specs.Interval.{mark}
 use Rattle.matrices.specs.Products.{unitZ}
-use Rattle.systems.specs.Fractions.{unitsOf, power, equationNum}
-use Rattle.systems.proofs.Factors.{power-pos, units-pos}
-use Rattle.systems.proofs.Slopes.{slopeNum, slopes-law}
+use Rattle.slopes.specs.Fractions.{unitsOf, power, equationNum}
+use Rattle.slopes.proofs.Factors.{power-pos, units-pos}
+use Rattle.slopes.proofs.Slopes.{slopeNum, slopes-law}
 use Rattle.jobs.specs.declared.Equation.{Equation}
 use Rattle.step.specs.Newton.{newtonScale, newtonDen, newtonNum}
 

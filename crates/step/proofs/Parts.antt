@@ -1,10 +1,10 @@
 -- The image from its parts: every part of it is in range, and the code's lists hold the parts place by place.
-use mathlib.Core.Path.{_≡_, refl, ap, _∙_}
+use mathlib.Core.Path.{_≡_, refl, _∙_}
 use mathlib.Core.List.{List}
 use Prim.Native.Nat.{ℕ, _<_}
 use lib.IntN.{ℤ}
 use Rattle.sizes.specs.Sizes.{nMax}
-use Rattle.sizes.specs.Bounds.{zMax, dMax, bMax, eMax, kMax}
+use Rattle.sizes.specs.Bounds.{zMax, eMax, kMax}
 use Rattle.lists.proofs.Tab.{tab-cong}
 use Rattle.intervals.specs.declared.Interval.{Interval}
 use Rattle.intervals.specs.Interval.{zeroI, addI, negI}

@@ -8,7 +8,7 @@ use lib.IntN.{ℤ, pos, _-ℤ_, _*ℤ_}
 use Rattle.sizes.specs.Sizes.{degreeMax}
 use Rattle.integers.specs.Sums.{sumTo}
 use Rattle.intervals.specs.Interval.{mark}
-use Rattle.systems.specs.Fractions.{unitsOf, power, equationNum}
+use Rattle.slopes.specs.Fractions.{unitsOf, power, equationNum}
 use Rattle.jobs.specs.declared.Equation.{Equation}
 
 -- what numerators and denominator of p are multiplied by

@@ -7,7 +7,7 @@ use Rattle.integers.specs.Ranges.{Within}
 use Rattle.intervals.specs.Ranges.{InI, AroundZero}
 use Rattle.intervals.specs.Interval.{addI, negI}
 use Rattle.sizes.specs.Bounds.{valueMax, slopeMax, dMax, eMax}
-use Rattle.systems.specs.Ranges.{BoxIn, SystemIn}
+use Rattle.slopes.specs.Ranges.{BoxIn, SystemIn}
 use Rattle.intervals.specs.declared.Interval.{Interval}
 use Rattle.jobs.specs.declared.Equation.{Equation}
 

@@ -6,7 +6,7 @@ use Rattle.intervals.specs.declared.Interval.{Interval}
 use Rattle.intervals.specs.Interval.{pointI, addI, negI, midI}
 use Rattle.intervals.specs.Places.{sideAt, vectorOf}
 use Rattle.matrices.specs.Products.{dOf, bOf, eOf}
-use Rattle.systems.specs.Terms.{equationOver, slopeOver}
+use Rattle.slopes.specs.Terms.{equationOver, slopeOver}
 use Rattle.jobs.specs.declared.Equation.{Equation}
 
 -- "1. m: in each coordinate the sum of the ends divided by 2, rounded down."

@@ -9,7 +9,7 @@ ghost use Rattle.sizes.specs.Sizes.{nMax};
 ghost use Rattle.lists.specs.Loops.{both};
 ghost use Rattle.intervals.specs.Interval.{pointI, addI, negI};
 ghost use Rattle.intervals.specs.Places.{entryAt, sideAt, cellAt, vectorOf};
-ghost use Rattle.systems.specs.Ranges.{BoxIn};
+ghost use Rattle.slopes.specs.Ranges.{BoxIn};
 ghost use Rattle.step.specs.Step.{middleOf, imageFrom};
 ghost use Rattle.step.specs.Decide.{decideOf};
 ghost use Rattle.step.specs.Ranges.{ImageIn, JoinIn};

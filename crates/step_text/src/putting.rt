@@ -1,5 +1,5 @@
 // The lines of an image and of what it decides, into a lent buffer.
-ghost use Prim.Native.Nat.{_+_, _≤_};
+ghost use Prim.Native.Nat.{_≤_};
 ghost use Rattle.sizes.specs.Sizes.{textMax};
 ghost use Rattle.writing.specs.Wrote.{Wrote, line};
 ghost use Rattle.step_text.specs.Lines.{moveText, imageLines, moveLines, EndsFit};

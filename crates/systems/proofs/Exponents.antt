@@ -1,31 +1,15 @@
--- The exponents of a lowered term, and the exponents and coefficients of a row's equation, case by case.
-use mathlib.Core.Path.{_≡_, refl, ap₂}
+-- The exponents and coefficients of a row's equation, case by case.
+use mathlib.Core.Path.{_≡_, ap₂}
 use mathlib.Core.List.{List}
 use mathlib.Core.Bool.{Bool, true, false, cond}
-use Prim.Native.Nat.{ℕ, _+_, _-_, _<_, _≤_}
+use Prim.Native.Nat.{ℕ, _+_, _<_, _≤_}
 use native.Mathlib.Omega.{arith}
 use lib.Dec.{eqb}
 use lib.IntN.{ℤ, negℤ}
 use borrow.Author.Tests.{lt-ltb, le-ltb, eq-eqb, ne-eqb}
 use Rattle.jobs.specs.declared.Term.{Term}
-use Rattle.systems.specs.Terms.{lowered}
 use Rattle.systems.specs.Kinds.{unitE, vectorE, eigenE, rowCoef}
 
--- the exponents of a lowered term
-pub lowered-same : (j : ℕ) (e : ℕ → ℕ) → lowered j e j ≡ e j - 1
-unfolding lowered
-lowered-same j e = rw (eq-eqb j j refl)
-
-pub lowered-other : (j : ℕ) (e : ℕ → ℕ) (k : ℕ) → (k ≡ j → ⊥) → lowered j e k ≡ e k
-unfolding lowered
-lowered-other j e k h = rw (ne-eqb k j h)
-
--- unknown k's alone
-pub lowered-at : (j : ℕ) (e : ℕ → ℕ) (k : ℕ) → lowered j (λ _. e k) k ≡ lowered j e k
-unfolding lowered
-lowered-at j e k = refl
-
--- the exponents of a row's equation
 pub unit-here : (t k : ℕ) → k ≡ t → unitE t k ≡ 1
 unfolding unitE
 unit-here t k e = rw (eq-eqb k t e)

@@ -26,8 +26,8 @@ use Rattle.jobs.specs.declared.Kind.{Kind}
 use Rattle.jobs.specs.declared.Term.{Term}
 use Rattle.jobs.specs.declared.Equation.{Equation}
 use Rattle.jobs.specs.declared.Job.{Job}
-use Rattle.systems.specs.Terms.{coefOf, expsOf}
-use Rattle.systems.specs.Fractions.{unitsOf, power, DegreesIn, equationNum}
+use Rattle.slopes.specs.Terms.{coefOf, expsOf}
+use Rattle.slopes.specs.Fractions.{unitsOf, power, DegreesIn, equationNum}
 use Rattle.systems.specs.Kinds.{unitE, vectorE, eigenE, rowCoef, build, linearEquation}
 use Rattle.systems.specs.Kinds.{eigenEquation, pinned, rowOf, equationBy, equationOf}
 use Rattle.systems.specs.Formulas.{linearNum, coordinate, eigenNum, formulaBy, formulaNum}

@@ -1,14 +1,4 @@
 pub mod Exponents
-pub mod Degrees
-pub mod Cases
-pub mod Places
-pub mod Ranges
-pub mod Rows
-pub mod Factors
-pub mod Values
-pub mod Walk
-pub mod Slopes
-pub mod Interface
 pub mod Monomials
 pub mod Formulas
 pub mod Systems

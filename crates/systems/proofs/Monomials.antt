@@ -11,16 +11,16 @@ use Rattle.integers.specs.Sums.{sumTo}
 use Rattle.integers.proofs.Commutative.{*ℤ-assoc, one-*ℤ}
 use Rattle.integers.proofs.Ring.{_⊗_, ring}
 use Rattle.integers.proofs.Sums.{sum-cong, sum-mul-r}
-use Rattle.checks.specs.Terms.{degree}
+use Rattle.term_checks.specs.Terms.{degree}
 use Rattle.lists.specs.Loops.{carry}
 use Rattle.jobs.specs.declared.Equation.{Equation}
-use Rattle.systems.specs.Terms.{coefOf, expsOf}
-use Rattle.systems.specs.Fractions.{unitsOf, power, termNum, equationNum}
+use Rattle.slopes.specs.Terms.{coefOf, expsOf}
+use Rattle.slopes.specs.Fractions.{unitsOf, power, termNum, equationNum}
 use Rattle.systems.specs.Kinds.{unitE}
-use Rattle.systems.proofs.Factors.{times-one, power-one, power-add}
+use Rattle.slopes.proofs.Factors.{times-one, power-one, power-add}
 use Rattle.systems.proofs.Exponents.{unit-here, unit-other}
-use Rattle.systems.proofs.Degrees.{degree-cong, degree-add, degree-none}
-use Rattle.systems.proofs.Values.{raised}
+use Rattle.slopes.proofs.Degrees.{degree-cong, degree-add, degree-none}
+use Rattle.slopes.proofs.Values.{raised}
 
 -- at every point the product of the unknowns, as often as e says, is z over (65,536 d) to the power of k
 pub record Monomial (n : ℕ) (e : ℕ → ℕ) (k : ℕ) (z : (ℕ → ℤ) → ℤ → ℤ) : Type 0 where

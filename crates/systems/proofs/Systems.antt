@@ -15,11 +15,12 @@ use Rattle.intervals.specs.Places.{numberAt}
 use Rattle.checks.specs.Accepted.{GoodPin}
 use Rattle.jobs.specs.declared.Kind.{Kind}
 use Rattle.jobs.specs.declared.Job.{Job}
-use Rattle.systems.specs.Terms.{coefOf}
+use Rattle.slopes.specs.Terms.{coefOf}
 use Rattle.systems.specs.Kinds.{unitE, eigenE, rowCoef, build, linearEquation, eigenEquation}
 use Rattle.systems.specs.Kinds.{rowOf, pinned, equationBy, equationOf, equationsOf}
-use Rattle.systems.specs.Ranges.{EquationIn, SystemIn, EntriesIn, PartsIn, JobIn}
-use Rattle.systems.specs.Fractions.{DegreesIn}
+use Rattle.slopes.specs.Ranges.{EquationIn, SystemIn}
+use Rattle.systems.specs.Parts.{EntriesIn, PartsIn, JobIn}
+use Rattle.slopes.specs.Fractions.{DegreesIn}
 use Rattle.systems.proofs.Exponents.{row-entry, row-last}
 use Rattle.systems.proofs.Formulas.{built-coef, linear-exact, eigen-exact, pinned-below}
 

@@ -11,7 +11,7 @@ use Rattle.integers.specs.Sums.{sumTo}
 use Rattle.intervals.specs.Interval.{mark}
 use Rattle.jobs.specs.declared.Kind.{Kind}
 use Rattle.jobs.specs.declared.Job.{Job}
-use Rattle.systems.specs.Fractions.{unitsOf, power, equationNum}
+use Rattle.slopes.specs.Fractions.{unitsOf, power, equationNum}
 use Rattle.systems.specs.Kinds.{pinned, rowOf, equationBy}
 
 -- "the sum of a(i,j) x(j), minus b(i)": over 65,536 d, then raised

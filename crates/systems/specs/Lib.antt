@@ -1,5 +1,3 @@
-pub mod Terms
-pub mod Fractions
 pub mod Kinds
 pub mod Formulas
-pub mod Ranges
+pub mod Parts

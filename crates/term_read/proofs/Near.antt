@@ -12,10 +12,10 @@ use Rattle.digits.specs.Number.{readNumber}
 use Rattle.digits.specs.declared.Number.{Number}
 use Rattle.jobs.specs.declared.Term.{Term}
 use Rattle.jobs.specs.Places.{noTerm}
-use Rattle.checks.specs.Ranges.{isWithin}
-use Rattle.checks.specs.Terms.{goodCoefs}
+use Rattle.term_checks.specs.Ranges.{isWithin}
+use Rattle.term_checks.specs.Terms.{goodCoefs}
 use Rattle.jobs.specs.Zero.{zeroTerm}
-use Rattle.checks.proofs.RangeLaws.{each-all}
+use Rattle.term_checks.proofs.RangeLaws.{each-all}
 use Rattle.text.specs.Cut.{Cut, fresh, feed, feeds}
 use Rattle.text.specs.Keys.{startsWith, bodyOf}
 use Rattle.term_text.specs.declared.Terms.{Terms}

@@ -7,7 +7,7 @@ use lib.ListN.{length, getD, replicate}
 use lib.IntN.{pos}
 use Rattle.sizes.specs.Sizes.{entryMax, termsMax}
 use Rattle.digits.specs.Bytes.{lineFeed, comma, digit0}
-use Rattle.checks.specs.Ranges.{isWithin}
+use Rattle.term_checks.specs.Ranges.{isWithin}
 use Rattle.jobs.specs.Zero.{zeroTerm}
 use Rattle.jobs.specs.declared.Term.{Term}
 use Rattle.text.specs.Keys.{bodyOf}

@@ -11,7 +11,6 @@ ghost use Rattle.scan.specs.Lines.{noFeed};
 ghost use Rattle.term_read.specs.Terms.{expsOf, OnlyTerm};
 ghost use Rattle.term_read.specs.Lines.{isMark, isFar, badTerms, TermsFrom};
 ghost use Rattle.term_read.specs.Lines.{noDigit, DigitFrom};
-use checks::ranges::within;
 use digits::is_digit;
 use jobs::Equation;
 use jobs::Term;
@@ -23,6 +22,7 @@ use scan::number_at;
 use sizes::ENTRY;
 use sizes::N;
 use sizes::TERMS;
+use term_checks::ranges::within;
 
 // Exponents, if each byte is a digit.
 struct Exps {

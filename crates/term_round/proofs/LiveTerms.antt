@@ -1,7 +1,7 @@
 -- An accepted equation stays so with zeros in its dead places.
 use Prim.Native.Nat.{ℕ, zero, suc, _+_, _≤_, _<_, min}
 use native.Mathlib.Omega.{arith}
-use mathlib.Core.Path.{_≡_, refl, sym, ap, ap₂, _∙_}
+use mathlib.Core.Path.{_≡_, refl, ap, ap₂, _∙_}
 use mathlib.Core.Bool.{Bool, _&&_, _||_}
 use lib.Dec.{eqb, leb, ltb}
 use lib.IntN.{ℤ, pos}
@@ -11,8 +11,8 @@ use Rattle.lists.proofs.Carry.{carry-cong}
 use Rattle.lists.proofs.All.{all-cong}
 use Rattle.jobs.specs.Places.{noTerm, expOf, termAt}
 use Rattle.jobs.specs.Zero.{zeroTerm}
-use Rattle.checks.specs.Ranges.{isWithin}
-use Rattle.checks.specs.Terms.{degree, alike, falls, inOrder, goodTerm, goodPlace, goodTerms, goodCoefs}
+use Rattle.term_checks.specs.Ranges.{isWithin}
+use Rattle.term_checks.specs.Terms.{degree, alike, falls, inOrder, goodTerm, goodPlace, goodTerms, goodCoefs}
 use Rattle.jobs.specs.declared.Term.{Term}
 use Rattle.jobs.specs.declared.Equation.{Equation}
 use Rattle.term_round.specs.Live.{liveTerm, liveEquation}

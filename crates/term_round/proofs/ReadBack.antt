@@ -22,9 +22,9 @@ use Rattle.text.proofs.Keys.{body-own}
 use Rattle.text.proofs.Pieces.{Above, AllAbove, above-append, number-above, commas-above, fed-joined}
 use Rattle.jobs.specs.Places.{expOf, termAt}
 use Rattle.jobs.specs.Zero.{zeroTerm}
-use Rattle.checks.specs.Ranges.{isWithin}
-use Rattle.checks.specs.Terms.{goodCoefs}
-use Rattle.checks.proofs.RangeLaws.{each-all}
+use Rattle.term_checks.specs.Ranges.{isWithin}
+use Rattle.term_checks.specs.Terms.{goodCoefs}
+use Rattle.term_checks.proofs.RangeLaws.{each-all}
 use Rattle.text.specs.Words.{eqKey}
 use Rattle.term_text.specs.Terms.{colon, exponents, noTerms, putTerm, addCoef, addParts}
 use Rattle.digits.specs.Digits.{isDigit, allDigits}

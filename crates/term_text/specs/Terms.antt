@@ -9,7 +9,7 @@ use lib.IntN.{pos}
 use Rattle.sizes.specs.Sizes.{nMax, entryMax}
 use Rattle.lists.specs.Loops.{tab}
 use Rattle.jobs.specs.Zero.{zeroEquation}
-use Rattle.checks.specs.Ranges.{isWithin}
+use Rattle.term_checks.specs.Ranges.{isWithin}
 use Rattle.digits.specs.Bytes.{comma, digit0}
 use Rattle.digits.specs.Digits.{allDigits}
 use Rattle.digits.specs.Number.{readNumber}

@@ -16,7 +16,7 @@ use Rattle.digits.specs.Show.{showNumber}
 use Rattle.digits.proofs.Show.{number-short}
 use Rattle.text.specs.Lists.{joined}
 use Rattle.jobs.specs.Places.{termAt}
-use Rattle.checks.specs.Terms.{degree}
+use Rattle.term_checks.specs.Terms.{degree}
 use Rattle.writing.specs.Wrote.{line}
 use Rattle.text.specs.Words.{eqKey}
 use Rattle.term_text.specs.Terms.{colon}

@@ -1,8 +1,6 @@
 -- decide: a fault is handed on, and beside it nothing; boxes in which nothing was found are decided.
-use mathlib.Core.Path.{sym, ap, _∙_}
+use mathlib.Core.Path.{sym, _∙_}
 use borrow.Author.Needs.{needs}
-use Rattle.faults.specs.Checks.{onLine}
-use Rattle.faults.specs.declared.Finding.{Finding}
 use Rattle.faults.proofs.Laws.{fine-first, fine-line}
 use Rattle.checks.proofs.CheckLaws.{unknowns-fine}
 use Rattle.one_step.specs.OneStep.{decideCheck, givesMove}

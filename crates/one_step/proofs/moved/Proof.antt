@@ -1,5 +1,5 @@
 -- moved: the decision of the two boxes, as values.
-use mathlib.Core.Path.{ap, _∙_}
+use mathlib.Core.Path.{ap}
 use borrow.Author.Needs.{needs}
 use Rattle.one_step.specs.OneStep.{moveTo, movesTo}
 use Rattle.one_step.proofs.moved.Statement.{statement}

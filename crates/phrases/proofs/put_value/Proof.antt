@@ -4,7 +4,7 @@ use mir.Facts.{toZ-ofZ}
 use borrow.Author.Needs.{needs}
 use mathlib.Core.Path.{sym, _∙_}
 use Rattle.sizes.specs.Sizes.{numberMax}
-use Rattle.checks.proofs.RangeLaws.{is-within}
+use Rattle.term_checks.proofs.RangeLaws.{is-within}
 use Rattle.phrases.specs.Words.{valueWords}
 use Rattle.phrases.proofs.Says.{says-number, says-none}
 use Rattle.phrases.proofs.put_value.Statement.{statement}

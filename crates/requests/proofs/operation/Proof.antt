@@ -1,6 +1,6 @@
 -- operation: words that are no operation by themselves are cut at their first space.
 use borrow.Author.Needs.{needs}
-use mathlib.Core.Path.{sym, _∙_}
+use mathlib.Core.Path.{sym}
 use lib.Seq.{length-take-le}
 use Rattle.digits.proofs.Lists.{to-end}
 use Rattle.requests.specs.Requests.{orNamed, operationOf}

@@ -15,7 +15,7 @@ use Rattle.intervals.specs.Interval.{zeroI}
 use Rattle.intervals.specs.Places.{entryAt, sideAt}
 use Rattle.jobs.specs.declared.Equation.{Equation}
 use Rattle.jobs.specs.Places.{equationAt}
-use Rattle.systems.specs.Terms.{equationOver, valuesOver, slopeRow, slopesOver}
+use Rattle.slopes.specs.Terms.{equationOver, valuesOver, slopeRow, slopesOver}
 use Rattle.step.specs.Step.{imageBox}
 use Rattle.step.specs.Ranges.{StepIn}
 use Rattle.step.proofs.Imaged.{m-in, asked, image-is}

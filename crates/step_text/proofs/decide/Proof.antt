@@ -1,6 +1,6 @@
 -- decide: a fault is handed on, and nothing is written; what is decided can be.
 use borrow.Author.Needs.{needs}
-use mathlib.Core.Path.{_≡_, sym, ap, _∙_}
+use mathlib.Core.Path.{sym, ap, _∙_}
 use Rattle.faults.proofs.Answer.{values-bad}
 use Rattle.faults.proofs.Laws.{fine-line}
 use Rattle.one_step.specs.declared.Decided.{Decided}

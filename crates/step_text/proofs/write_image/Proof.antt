@@ -1,9 +1,7 @@
 -- write_image: a fault is handed on, and nothing is written; an image can be.
 use borrow.Author.Needs.{needs}
-use mathlib.Core.Path.{_≡_, sym, ap, _∙_}
-use Rattle.faults.specs.declared.Status.{Status}
+use mathlib.Core.Path.{sym, ap, _∙_}
 use Rattle.faults.proofs.Answer.{values-bad}
-use Rattle.one_step.specs.OneStep.{imageStatus}
 use Rattle.one_step.specs.declared.Imaged.{Imaged}
 use Rattle.one_step.proofs.Given.{image-status}
 use Rattle.step_text.specs.Texts.{imageText}

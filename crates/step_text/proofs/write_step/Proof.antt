@@ -1,7 +1,6 @@
 -- write_step: a fault is handed on, and nothing is written; an image and what it decides can be.
 use borrow.Author.Needs.{needs}
-use mathlib.Core.Path.{_≡_, sym, ap, _∙_}
-use Rattle.faults.specs.declared.Status.{Status}
+use mathlib.Core.Path.{sym, ap, _∙_}
 use Rattle.faults.proofs.Answer.{values-bad}
 use Rattle.one_step.specs.declared.Imaged.{Imaged}
 use Rattle.one_step.proofs.Given.{image-status}

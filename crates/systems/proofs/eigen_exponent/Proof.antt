@@ -2,7 +2,6 @@
 use mathlib.Core.Path.{sym, ap₂, _∙_}
 use native.Mathlib.Omega.{arith}
 use borrow.Author.Needs.{needs}
-use Prim.Native.Nat.{_+_}
 use Rattle.systems.proofs.Exponents.{unit-small, vector-small, eigen-row, eigen-last}
 use Rattle.systems.proofs.eigen_exponent.Statement.{statement}
 use Rattle.systems.proofs.eigen_exponent.Tie as tie

@@ -9,7 +9,7 @@ use Rattle.integers.proofs.Ranges.{fits}
 use Rattle.intervals.specs.Places.{numberAt}
 use Rattle.jobs.specs.declared.Kind.{Kind}
 use Rattle.jobs.specs.declared.Job.{Job}
-use Rattle.systems.specs.Ranges.{JobIn}
+use Rattle.systems.specs.Parts.{JobIn}
 use Rattle.systems.proofs.Systems.{equation-by, pin-by, parts-by}
 use Rattle.systems.proofs.equation_of.Statement.{statement}
 use Rattle.systems.proofs.equation_of.Tie as tie
