@@ -1,4 +1,5 @@
 -- eigen_exponent: each branch of the test is one case, and no exponent is over 2.
+use Prim.Native.Nat.{_+_}
 use mathlib.Core.Path.{sym, ap₂, _∙_}
 use native.Mathlib.Omega.{arith}
 use borrow.Author.Needs.{needs}
