@@ -9,12 +9,12 @@ use crate::streams::say_number;
 use answers::ROOM;
 use answers::reply;
 use answers::tell;
-use explain::explain_job;
-use explain::explain_result;
 use faults::Status;
 use faults::Written;
 use requests::Op;
 use sentences::SENTENCE;
+use sentences::explain_job;
+use sentences::explain_result;
 use sizes::TEXT;
 
 // What a text is answered by.

@@ -61,7 +61,7 @@ pub extern "C" fn floodrafter_check_result(text: &[u8]) -> Answer
 pub extern "C" fn floodrafter_explain_job(text: &[u8], out: &mut [u8]) -> usize
     ensures { λ r. ⌜ Explains (foundIn (readJob (now (text .entry)) .status)) (now (out .entry)) (now (out .exit)) r ⌝ }
 {
-    explain::explain_job(text, out)
+    sentences::explain_job(text, out)
 }
 
 #[no_mangle]
@@ -69,5 +69,5 @@ pub extern "C" fn floodrafter_explain_result(text: &[u8], out: &mut [u8]) -> usi
     ensures { λ r. ⌜ Explains (foundIn (readResult (now (text .entry)) .status))
         (now (out .entry)) (now (out .exit)) r ⌝ }
 {
-    explain::explain_result(text, out)
+    sentences::explain_result(text, out)
 }

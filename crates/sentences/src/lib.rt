@@ -1,4 +1,4 @@
-// The sentence of a slip, for the typist: what stands there and what is expected.
+// The sentence beside a fault, for the typist: what stands there and what is expected.
 mod spelled;
 mod values;
 
@@ -12,13 +12,18 @@ use sizes::TEXT;
 use slips::PinSlip;
 use slips::Slip;
 use spelled::put_misspelled;
+use text_slips::job_slip;
+use text_slips::result_slip;
 use values::put_crossed;
 use values::put_far;
 use values::put_terms;
 use writing::put_bytes;
+ghost use Rattle.job_form.specs.JobForm.{readJob};
+ghost use Rattle.result_form.specs.ResultForm.{readResult};
 ghost use Rattle.slips.specs.declared.Slip.{Slip};
+ghost use Rattle.slips.specs.Slips.{foundIn};
 ghost use Rattle.phrases.specs.Says.{Says, sentenceMax};
-ghost use Rattle.sentences.specs.Sentences.{unknownsWords, stepsWords, pinnedWords, slipWords};
+ghost use Rattle.sentences.specs.Sentences.{unknownsWords, stepsWords, pinnedWords, slipWords, Explains};
 
 // The longest sentence: a buffer of this size has room for any.
 pub const SENTENCE: usize = 256;
@@ -71,8 +76,7 @@ fn put_pinned(out: &mut [u8], v: i64, slip: PinSlip) -> usize
     }
 }
 
-// What has no room is counted and not written.
-pub fn put_slip(out: &mut [u8], slip: Slip) -> usize
+fn put_slip(out: &mut [u8], slip: Slip) -> usize
     ensures { λ r. ⌜ Says sentenceMax (now (out .entry)) (now (out .exit)) 0 r (slipWords slip) ⌝ }
 {
     match slip {
@@ -87,4 +91,20 @@ pub fn put_slip(out: &mut [u8], slip: Slip) -> usize
         Slip::Steps(v) => put_steps(out, v),
         Slip::Pin(v, slip) => put_pinned(out, v, slip),
     }
+}
+
+// The sentence beside a job text's fault, for any bytes and any buffer: its length, 0 where there is no fault. What
+// has no room is counted and not written.
+pub fn explain_job(text: &[u8], out: &mut [u8]) -> usize
+    ensures { λ r. ⌜ Explains (foundIn (readJob (now (text .entry)) .status)) (now (out .entry)) (now (out .exit)) r ⌝ }
+{
+    put_slip(out, job_slip(text))
+}
+
+// The same beside a result text's fault.
+pub fn explain_result(text: &[u8], out: &mut [u8]) -> usize
+    ensures { λ r. ⌜ Explains (foundIn (readResult (now (text .entry)) .status))
+        (now (out .entry)) (now (out .exit)) r ⌝ }
+{
+    put_slip(out, result_slip(text))
 }
