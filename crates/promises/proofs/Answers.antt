@@ -16,7 +16,7 @@ use Rattle.promises.specs.Claims.{Point, Lies, Same, Zero, Ordered, Syst
 use Rattle.promises.specs.Claims.{Begins, Reaches, StrictlyOn, UniqueStep}
 use Rattle.promises.proofs.Contraction.{wide, contracts}
 use Rattle.promises.proofs.Points.{same-zero, closer}
-use Rattle.promises.proofs.Runs.{spent-or, more, whole-spent, run-count, run-stays, run-keeps}
+use Rattle.runs.proofs.Runs.{spent-or, more, whole-spent, run-count, run-stays, run-keeps}
 use Rattle.promises.proofs.Verdicts.{sides-of, step-ordered, unique-reached, unique-answer}
 
 module _ (s : System) where

@@ -1,6 +1,6 @@
 -- An accepted job gives a system, and its solutions are the system's zeros.
 use mathlib.Core.Path.{_≡_, refl, _∙_}
-use mathlib.Core.List.{[], _∷_}
+use mathlib.Core.List.{List, [], _∷_}
 use mathlib.Core.Logic.{_↔_}
 use Prim.Native.Nat.{ℕ, _-_, _<_}
 use lib.IntN.{ℤ, pos, _-ℤ_, _*ℤ_, zero-*ℤ}
@@ -12,38 +12,40 @@ use Rattle.integers.proofs.Linear.{zlin}
 use Rattle.integers.proofs.Order.{cancel-r}
 use Rattle.integers.proofs.Ring.{lit, _⊖_, _⊗_, ring}
 use Rattle.intervals.specs.Places.{sideAt, numberAt}
-use Rattle.checks.specs.Accepted.{GoodSystem, Accepted}
-use Rattle.slopes.specs.Fractions.{unitsOf, DegreesIn}
-use Rattle.systems.specs.Kinds.{pinned, rowOf, equationBy, equationOf}
+use Rattle.intervals.specs.declared.Interval.{Interval}
+use Rattle.checks.specs.Accepted.{Accepted}
+use Rattle.slopes.specs.Fractions.{unitsOf}
+use Rattle.systems.specs.Kinds.{pinned, rowOf, equationOf}
 use Rattle.systems.specs.Formulas.{linearNum, coordinate, eigenNum, formulaNum}
 use Rattle.slopes.proofs.Factors.{power-pos, units-pos}
 use Rattle.intervals.specs.Interval.{mark}
-use Rattle.systems.proofs.Formulas.{equation-is, equation-degrees}
+use Rattle.systems.proofs.Formulas.{equation-is}
 use Rattle.step.specs.Values.{startOf, inverseOf}
 use Rattle.step.proofs.Given.{start-in}
 use Rattle.jobs.specs.declared.Kind.{Kind}
 use Rattle.jobs.specs.declared.Job.{Job}
+use Rattle.runs.proofs.Left.{job-degrees}
 use Rattle.promises.specs.Claims.{Point, Zero, Ordered, System}
 use Rattle.promises.specs.Jobs.{Solves, SolvesLinear, Eigenpair}
 
 module _ (j : Job) (a : Accepted j) where
-  pub given-degrees : (i : ℕ)
-      → i < j .head .n → j .head .kind ≡ Kind.Poly → DegreesIn (j .head .n) (equationBy Kind.Poly j i)
-  given-degrees i l e = let good : GoodSystem Kind.Poly j i = rw e at (a .system i l) in record { each = good .deg }
-
   pub start-order : Ordered (j .head .n) (sideAt (startOf j))
   start-order k l = start-in a .each k l .order
 
-  abbrev pub systemOf : System
-  systemOf = record {
+  -- from the box x on
+  abbrev pub systemFrom : (x : List Interval) → Ordered (j .head .n) (sideAt x) → System
+  systemFrom x order = record {
     n = j .head .n;
     room = a .few;
     equations = equationOf j;
-    degrees = λ i l. equation-degrees j (a .few) (a .pin) i l (given-degrees i l);
+    degrees = job-degrees j a;
     inverse = inverseOf j;
-    start = startOf j;
-    order = start-order;
+    start = x;
+    order = order;
   }
+
+  abbrev pub systemOf : System
+  systemOf = systemFrom (startOf j) start-order
 
   pub solves-zero : {p : Point} → Solves j p → Zero (j .head .n) (equationOf j) p
   solves-zero {p} s = record { each = λ i l. equation-is j (a .few) (a .pin) i l (p .num) (p .den) ∙ s .each i l }

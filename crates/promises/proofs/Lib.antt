@@ -2,7 +2,6 @@ pub mod Largest
 pub mod Contraction
 pub mod Scale
 pub mod Points
-pub mod Runs
 pub mod Verdicts
 pub mod Answers
 pub mod Promises
@@ -16,3 +15,5 @@ pub mod Examples
 pub mod ByTwo
 pub mod RequestP7
 pub mod RequestP2
+pub mod Halved
+pub mod RequestP8

@@ -11,7 +11,7 @@ use Rattle.step.specs.Decide.{stepOf}
 use Rattle.run.specs.Run.{outcome, settle}
 use Rattle.promises.specs.Claims.{Point, Lies, Same, Zero, newtonOf, BoxInside}
 use Rattle.promises.specs.Claims.{System, runWith, Begins, UniqueStep}
-use Rattle.promises.proofs.Runs.{more, run-one, run-on, run-nested, image-box}
+use Rattle.runs.proofs.Runs.{more, run-one, run-on, run-nested, image-box}
 use Rattle.promises.proofs.Verdicts.{answer-stays}
 use Rattle.promises.proofs.Answers.{step-begun, answer-keeps, answer-none}
 use Rattle.promises.proofs.Answers.{step-keeps, answer-same, answer-unique}

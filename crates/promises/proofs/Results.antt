@@ -27,9 +27,8 @@ use Rattle.step.specs.Values.{startOf, inverseOf, lowEnds, highEnds}
 use Rattle.step.proofs.Given.{start-in}
 use Rattle.run.specs.declared.Outcome.{Outcome}
 use Rattle.run.specs.Job.{runFrom, outcomeOf, resultOf, runJob}
-use Rattle.promises.specs.Claims.{Ordered, BoxInside}
-use Rattle.promises.proofs.Jobs.{systemOf}
-use Rattle.promises.proofs.Runs.{run-count, run-shrinks, run-ordered}
+use Rattle.runs.proofs.Runs.{run-count}
+use Rattle.runs.proofs.Left.{left-low, left-high, left-ordered}
 use Rattle.result_form.specs.ResultShows.{showResult}
 use Rattle.result_form.proofs.Trips.{result-short}
 
@@ -42,34 +41,12 @@ module _ (j : Job) (checked : checkJob j ≡ Status.Done) where
     abbrev o : Outcome
     o = runFrom j x a
 
-    inside : BoxInside (j .head .n) (o .sides) x
-    inside = run-shrinks (j .head .n) (equationOf j) (inverseOf j) (accepted .few) a 0 x
-
-    in-order : Ordered (j .head .n) (sideAt (o .sides))
-    in-order = run-ordered (j .head .n) (equationOf j) (inverseOf j) (accepted .few) (systemOf j accepted .degrees) a 0
-        x (λ k l. box .each k l .order)
-
     module _ (k : ℕ) (l : k < j .head .n) where
-      low : Within (sideAt (o .sides) k .lo) endMax
-      low = within _ endMax (omega (zorder, inside .each k l .low, within-lo (box .each k l .low)))
-          (omega (zorder, in-order k l, inside .each k l .high, within-hi (box .each k l .high)))
-
-      high : Within (sideAt (o .sides) k .hi) endMax
-      high = within _ endMax (omega (zorder, in-order k l, inside .each k l .low, within-lo (box .each k l .low)))
-          (omega (zorder, inside .each k l .high, within-hi (box .each k l .high)))
-
       low-at : getD (lowEnds (j .head .n) (o .sides)) k (pos 0) ≡ sideAt (o .sides) k .lo
       low-at = getD-tab (pos 0) nMax (j .head .n) (λ k. sideAt (o .sides) k .lo) (pos 0) k l (accepted .few)
 
       high-at : getD (highEnds (j .head .n) (o .sides)) k (pos 0) ≡ sideAt (o .sides) k .hi
       high-at = getD-tab (pos 0) nMax (j .head .n) (λ k. sideAt (o .sides) k .hi) (pos 0) k l (accepted .few)
-
-    -- the box that is left can be run from again
-    pub from-in : BoxIn (j .head .n) (sideAt (o .sides))
-    from-in = record {
-      places = accepted .few;
-      each = λ k l. record { order = in-order k l; low = low k l; high = high k l };
-    }
 
     module _ (few : a ≤ stepsMax) where
       from-sound : Sound (resultOf j o)
@@ -79,9 +56,9 @@ module _ (j : Job) (checked : checkJob j ≡ Status.Done) where
         steps = omega (arith, run-count (j .head .n) (equationOf j) (inverseOf j) a 0 x, few);
         some = accepted .some;
         few = accepted .few;
-        low = within-all _ (j .head .n) endMax (λ k l. rw (low-at k l) (low k l));
-        high = within-all _ (j .head .n) endMax (λ k l. rw (high-at k l) (high k l));
-        ordered = ordered-all _ _ (j .head .n) (λ k l. rw (low-at k l, high-at k l) (in-order k l));
+        low = within-all _ (j .head .n) endMax (λ k l. rw (low-at k l) (left-low j accepted x box a k l));
+        high = within-all _ (j .head .n) endMax (λ k l. rw (high-at k l) (left-high j accepted x box a k l));
+        ordered = ordered-all _ _ (j .head .n) (λ k l. rw (low-at k l, high-at k l) (left-ordered j accepted x box a k l));
       }
 
       pub from-checked : checkResult (resultOf j o) ≡ Status.Done

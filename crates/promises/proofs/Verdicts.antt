@@ -15,8 +15,8 @@ use Rattle.step.proofs.Exactly.{none-exactly, unique-exactly, stalled-exactly}
 use Rattle.run.specs.declared.Outcome.{Outcome}
 use Rattle.run.specs.Run.{outcome, settle, runOf}
 use Rattle.promises.specs.Claims.{Ordered, System, runWith, Begins, Reaches, EmptyOn, StrictlyOn, UnchangedOn}
-use Rattle.promises.proofs.Runs.{verdict-of, more, whole-spent, run-one, run-on}
-use Rattle.promises.proofs.Runs.{run-stays, image-ordered, run-ordered, deciding}
+use Rattle.runs.proofs.Runs.{verdict-of, more, whole-spent, run-one, run-on}
+use Rattle.runs.proofs.Runs.{run-stays, image-ordered, run-ordered, deciding}
 
 -- ---- a step's move as a verdict, "spent" for a step that goes on, and the box that comes with it
 abbrev pub verdictBy : Move → Verdict

@@ -9,12 +9,12 @@ use lib.Signed.{_≤ℤ_, _<ℤ_}
 use Rattle.sizes.specs.Sizes.{nMax}
 use Rattle.integers.specs.Absolute.{absℤ}
 use Rattle.intervals.specs.Places.{sideAt}
-use Rattle.intervals.specs.Fraction.{Inside}
 use Rattle.slopes.specs.Fractions.{InBox, DegreesIn, equationNum}
 use Rattle.step.specs.Step.{imageBox}
 use Rattle.step.specs.Newton.{newtonScale, newtonDen, newtonNum}
 use Rattle.step.specs.Meanings.{Empty, Strictly, Unchanged}
 use Rattle.run.specs.Run.{outcome, runOf}
+pub use Rattle.runs.specs.Boxes.{Ordered, BoxInside}
 use Rattle.intervals.specs.declared.Interval.{Interval}
 use Rattle.jobs.specs.declared.Equation.{Equation}
 use Rattle.jobs.specs.declared.Verdict.{Verdict}
@@ -41,14 +41,6 @@ pub record Zero (n : ℕ) (q : ℕ → Equation) (p : Point) : Type 0 where
 -- formulas of document 01 by `equation-is` (systems, proofs/Formulas)
 abbrev pub newtonOf : ℕ → (ℕ → Equation) → (ℕ → ℕ → ℤ) → Point → Point
 newtonOf n q C p = record { num = newtonNum n q C (p .num) (p .den); den = newtonDen (p .den) }
-
--- "An interval is [a, b] with a <= b."
-abbrev pub Ordered : ℕ → (ℕ → Interval) → Type 0
-Ordered n X = (k : ℕ) → k < n → X k .lo ≤ℤ X k .hi
-
--- the box x lies in the box y
-pub record BoxInside (n : ℕ) (x y : List Interval) : Type 0 where
-  pub each : (k : ℕ) → k < n → Inside (sideAt x k) (sideAt y k)
 
 -- ---- "their largest coordinate difference, each divided by that edge's width"
 -- the difference in coordinate k, over p den × r den

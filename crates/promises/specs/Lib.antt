@@ -2,3 +2,4 @@ pub mod Claims
 pub mod Jobs
 pub mod Pins
 pub mod ByTwo
+pub mod Halved

@@ -40,3 +40,11 @@ entryMax = 4194304
 -- "each of total degree 0 to 3"
 abbrev pub degreeMax : ℕ
 degreeMax = 3
+
+-- P8: "Depth is 0 to 8."
+abbrev pub depthMax : ℕ
+depthMax = 8
+
+-- P8: "two to the power of the depth"
+abbrev pub boxesMax : ℕ
+boxesMax = 2 ^ depthMax

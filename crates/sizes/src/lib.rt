@@ -21,3 +21,7 @@ pub const IMAGE: i64 = 70368744177664;
 pub const ENTRY: i64 = 4194304;
 // The total degree of a term.
 pub const DEGREE: u64 = 3;
+// Halvings of a box, one within the other.
+pub const DEPTH: u64 = 8;
+// Boxes that so many halvings list at most: two to the power of the depth.
+pub const BOXES: usize = 256;

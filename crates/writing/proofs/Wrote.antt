@@ -6,15 +6,10 @@ use mathlib.Core.Path.{_≡_, refl, sym, ap, _∙_}
 use mathlib.Core.List.{List, [], _∷_, _++_, append-assoc}
 use lib.ListN.{length, set, length-append}
 use lib.Seq.{sets, set-comm, length-sets}
+use Rattle.lists.proofs.Sets.{sets-append}
 use Rattle.digits.specs.Bytes.{lineFeed}
 use Rattle.text.specs.Cut.{endEach}
 use Rattle.writing.specs.Wrote.{Wrote, line}
-
-pub sets-append : (l : List ℕ) (i : ℕ) (a b : List ℕ) → sets l i (a ++ b) ≡ sets (sets l i a) (i + length a) b
-sets-append l i [] b = rw (add-zero i)
-sets-append l i (x ∷ a) b =
-    let e : suc i + length a ≡ i + suc (length a) = omega arith in
-    rw (← e) (sets-append (set l i x) (suc i) a b)
 
 -- a byte right before what stands already
 pub sets-before : (l : List ℕ) (i p : ℕ) (bs : List ℕ) (b : ℕ) → p < i → set (sets l i bs) p b ≡ sets (set l p b) i bs

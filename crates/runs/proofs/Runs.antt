@@ -9,9 +9,12 @@ use native.Mathlib.Nat.{zero-add, suc-add}
 use native.Mathlib.Numerals.{add-one}
 use native.Mathlib.Omega.{arith}
 use lib.IntN.{ℤ, pos}
+use lib.ListN.{length}
 use Rattle.sizes.specs.Sizes.{nMax}
 use Rattle.integers.proofs.Parts.{zorder}
+use Rattle.lists.proofs.Tab.{length-tab}
 use Rattle.intervals.specs.declared.Interval.{Interval}
+use Rattle.intervals.specs.Interval.{zeroI}
 use Rattle.intervals.specs.Places.{sideAt}
 use Rattle.intervals.proofs.Hold.{hold-order}
 use Rattle.intervals.proofs.Meeting.{hold-cut}
@@ -28,7 +31,7 @@ use Rattle.step.proofs.Decisions.{zero-one, Decided, none, unique, stalled, nex
 use Rattle.step.proofs.Decisions.{decided, all-meet, cut-at, cut-inside, cut-ordered, step-is}
 use Rattle.run.specs.declared.Outcome.{Outcome}
 use Rattle.run.specs.Run.{outcome, settle, runOf}
-use Rattle.promises.specs.Claims.{Ordered, BoxInside}
+use Rattle.runs.specs.Boxes.{Ordered, BoxInside}
 
 false-true : {b : Bool} → b ≡ false → b ≡ true → ⊥
 false-true e h = zero-one (cc)
@@ -80,6 +83,14 @@ module _ (n : ℕ) (q : ℕ → Equation) (C : ℕ → ℕ → ℤ) where
       by (unique e s) = rw e (onUnique s)
       by (stalled e s) = rw e onStalled
       by (next e m) = rw e (onNext m)
+
+  -- the code's array keeps its length
+  pub run-length : (a done : ℕ) (x : List Interval) → length x ≡ nMax → length (runOf n q C a done x .sides) ≡ nMax
+  unfolding imageBox cutBox
+  run-length zero done x e = rw run-none e
+  run-length (suc a) done x e =
+      by-step x done (λ f. length (f a .sides) ≡ nMax) (λ m. e) (λ s. length-tab zeroI nMax n _) e
+      (λ m. run-length a (done + 1) (cut x) (length-tab zeroI nMax n _))
 
   -- ---- several steps
   pub run-one : (t : ℕ) (x : List Interval) → runOf n q C 1 t x

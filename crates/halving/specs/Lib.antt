@@ -1,0 +1,4 @@
+pub mod Boxes
+pub mod Parts
+pub mod Lists
+pub mod Halving

@@ -1,0 +1,214 @@
+// All closing positions: a box whose run decides nothing is cut in two, and each half is run in its turn.
+ghost use mathlib.Core.Path.{_≡_};
+ghost use Prim.Native.Nat.{_+_, _*_, _^_, _≤_};
+ghost use lib.ListN.{length};
+ghost use Rattle.sizes.specs.Sizes.{nMax, depthMax};
+ghost use Rattle.intervals.specs.Places.{sideAt};
+ghost use Rattle.faults.specs.declared.Status.{Status};
+ghost use Rattle.checks.specs.Checks.{checkJob};
+ghost use Rattle.slopes.specs.Ranges.{BoxIn};
+ghost use Rattle.halving.specs.Boxes.{listedAs, boxesFrom, boxesOf};
+ghost use Rattle.halving.specs.Parts.{undecidedPart, partOf, ranAs};
+ghost use Rattle.halving.specs.Lists.{listedPlaces, uniqueNumber, Put, Lists, ListsIn};
+ghost use Rattle.halving.specs.Halving.{depthStatus, roomStatus, halveStatus, Halves};
+use checks::job::check_job;
+use edges::high_half;
+use edges::is_wide;
+use edges::low_half;
+use faults::Fault;
+use faults::Status;
+use faults::is_bad;
+use intervals::Interval;
+use jobs::Job;
+use jobs::Verdict;
+use run::run_from;
+use sizes::DEPTH;
+use sizes::N;
+use step::values;
+
+// Numbers of a listed box, whatever n is: unique or open, the low ends, the high ends.
+pub const LISTED: usize = 1 + N + N;
+
+// How many boxes are listed, none beside a fault.
+pub struct Halved {
+    pub status: Status,
+    pub boxes: usize,
+}
+
+// What becomes of a box that was run.
+pub enum Part {
+    Dropped,
+    Unique,
+    Open,
+    Cut,
+}
+
+// The box that a run returned stands beside the enum, which holds no array.
+pub struct Returned {
+    pub part: Part,
+    pub sides: [Interval; N],
+}
+
+// A box that was not decided.
+fn undecided(x: [Interval; N], n: usize, depth: u64) -> Part
+    requires { ⌜ BoxIn n (sideAt x) ⌝ }
+    requires { ⌜ 1 ≤ n ⌝ }
+    ensures { λ r. ⌜ r ≡ undecidedPart n x depth ⌝ }
+{
+    if depth == 0 {
+        return Part::Open;
+    }
+    if is_wide(x, n) {
+        return Part::Cut;
+    }
+    Part::Open
+}
+
+fn part_of(verdict: Verdict, x: [Interval; N], n: usize, depth: u64) -> Part
+    requires { ⌜ BoxIn n (sideAt x) ⌝ }
+    requires { ⌜ 1 ≤ n ⌝ }
+    ensures { λ r. ⌜ r ≡ partOf verdict n x depth ⌝ }
+{
+    match verdict {
+        Verdict::None => Part::Dropped,
+        Verdict::Unique => Part::Unique,
+        Verdict::Stalled => undecided(x, n, depth),
+        Verdict::Spent => undecided(x, n, depth),
+    }
+}
+
+// The run of a job from the box x on, with its own allowance.
+fn ran(j: Job, x: [Interval; N], depth: u64) -> Returned
+    requires { ⌜ checkJob j ≡ Status.Done ⌝ }
+    requires { ⌜ BoxIn (j .head .n) (sideAt x) ⌝ }
+    ensures { λ r. ⌜ r ≡ ranAs j depth x ⌝ }
+{
+    let n = j.head.n;
+    let o = run_from(j, x, j.steps);
+    let verdict = o.verdict;
+    let sides = o.sides;
+    let part = part_of(verdict, sides, n, depth);
+    Returned { part, sides }
+}
+
+fn put_row(list: &mut [i64], at: usize, row: [i64; N]) -> usize
+    requires { ⌜ at + nMax ≤ length (now list) ⌝ }
+    ensures { λ r. ⌜ Put (now (list .entry)) (now (list .exit)) at r row ⌝ }
+{
+    for k in 0..N {
+        let v = row[k];
+        list[at + k] = v;
+    }
+    at + N
+}
+
+fn unique_number(unique: bool) -> i64
+    ensures { λ r. ⌜ r ≡ uniqueNumber unique ⌝ }
+{
+    if unique {
+        return 1;
+    }
+    0
+}
+
+// One box behind the first `at`; answers how many stand there then.
+fn put_box(list: &mut [i64], at: usize, unique: bool, x: [Interval; N], n: usize) -> usize
+    requires { ⌜ n ≤ nMax ⌝ }
+    requires { ⌜ listedPlaces * (at + 1) ≤ length (now list) ⌝ }
+    ensures { λ r. ⌜ Lists n (now (list .entry)) (now (list .exit)) at r (listedAs unique x) ⌝ }
+{
+    let first = LISTED * at;
+    let word = unique_number(unique);
+    let ends = values::ends_of(x, n);
+    let lo = ends.lo;
+    let hi = ends.hi;
+    list[first] = word;
+    let next = put_row(list, first + 1, lo);
+    put_row(list, next, hi);
+    at + 1
+}
+
+// The boxes that come of x, behind the first `at`.
+fn list_from(j: Job, x: [Interval; N], depth: u64, list: &mut [i64], at: usize) -> usize
+    requires { ⌜ ListsIn j x depth (length (now list)) at ⌝ }
+    ensures { λ r. ⌜ Lists (j .head .n) (now (list .entry)) (now (list .exit)) at r (boxesFrom j depth x) ⌝ }
+{
+    let n = j.head.n;
+    let r = ran(j, x, depth);
+    let part = r.part;
+    let sides = r.sides;
+    match part {
+        Part::Dropped => at,
+        Part::Unique => put_box(list, at, true, sides, n),
+        Part::Open => put_box(list, at, false, sides, n),
+        Part::Cut => {
+            let next = list_from(j, low_half(sides, n), depth - 1, list, at);
+            list_from(j, high_half(sides, n), depth - 1, list, next)
+        }
+    }
+}
+
+fn depth_status(depth: i64) -> Status
+    ensures { λ r. ⌜ r ≡ depthStatus depth ⌝ }
+{
+    if depth < 0 {
+        return Status::Refused(Fault::Steps, 0);
+    }
+    if DEPTH < depth as u64 {
+        return Status::Refused(Fault::Steps, 0);
+    }
+    Status::Done
+}
+
+fn room_status(depth: u64, room: usize) -> Status
+    requires { ⌜ depth ≤ depthMax ⌝ }
+    ensures { λ r. ⌜ r ≡ roomStatus depth room ⌝ }
+{
+    let boxes: usize = 1 << depth;
+    if boxes <= room / LISTED {
+        return Status::Done;
+    }
+    Status::Refused(Fault::ShortBuffer, 0)
+}
+
+fn halve_status(j: Job, depth: i64, room: usize) -> Status
+    ensures { λ r. ⌜ r ≡ halveStatus j depth room ⌝ }
+{
+    let own = check_job(j);
+    if is_bad(own) {
+        return own;
+    }
+    let deep = depth_status(depth);
+    if is_bad(deep) {
+        return deep;
+    }
+    room_status(depth as u64, room)
+}
+
+// The boxes of a job whose check found nothing.
+fn list_job(j: Job, depth: u64, list: &mut [i64]) -> usize
+    requires { ⌜ checkJob j ≡ Status.Done ⌝ }
+    requires { ⌜ listedPlaces * 2 ^ depth ≤ length (now list) ⌝ }
+    ensures { λ r. ⌜ Lists (j .head .n) (now (list .entry)) (now (list .exit)) 0 r (boxesOf j depth) ⌝ }
+{
+    let ends = j.ends;
+    let x = values::box_of(ends, j.head.n);
+    list_from(j, x, depth, list, 0)
+}
+
+// Every value is taken: a fault is returned and touches no number of the list.
+pub fn halve(j: Job, depth: i64, list: &mut [i64]) -> Halved
+    ensures { λ r. ⌜ Halves j depth (now (list .entry)) (now (list .exit)) r ⌝ }
+{
+    let status = halve_status(j, depth, list.len());
+    match status {
+        Status::Done => Halved {
+            status: Status::Done,
+            boxes: list_job(j, depth as u64, list),
+        },
+        Status::Refused(fault, line) => Halved {
+            status: Status::Refused(fault, line),
+            boxes: 0,
+        },
+    }
+}

@@ -1,0 +1,1 @@
+// What steps, one after the other, do to a box. There is no code here.
