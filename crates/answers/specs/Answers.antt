@@ -3,7 +3,7 @@ use Prim.Native.Nat.{ℕ, _+_, _≤_}
 use mathlib.Core.Path.{_≡_}
 use mathlib.Core.List.{List, [], _∷_, _++_}
 use lib.ListN.{length, take, drop}
-use Rattle.sizes.specs.Sizes.{textMax}
+use Rattle.sizes.specs.Sizes.{textMax, boxesMax}
 use Rattle.digits.specs.Bytes.{lineFeed}
 use Rattle.digits.specs.Number.{digitsMax}
 use Rattle.digits.specs.Show.{showMagnitude}
@@ -15,8 +15,10 @@ use Rattle.faults.specs.declared.Written.{Written}
 use Rattle.desk.specs.Desk.{solveStatus, solveText, jobStatus, jobText, resultStatus, resultText}
 use Rattle.arguments.specs.Words.{space, behind}
 use Rattle.arguments.specs.Boxes.{boxedBy, toldBy}
+use Rattle.arguments.specs.Depths.{deepBy}
 use Rattle.arguments.specs.declared.boxes.Boxed.{Boxed}
 use Rattle.arguments.specs.declared.boxes.Told.{Told}
+use Rattle.arguments.specs.declared.depths.Deep.{Deep}
 use Rattle.one_step.specs.OneStep.{decideStatus}
 use Rattle.step_text.specs.Texts.{decideText, ownStatus, ownImage, boxStatus, boxImage}
 use Rattle.requests.specs.declared.Op.{Op}
@@ -30,6 +32,11 @@ boxAsked w = boxedBy (behind space w)
 -- `decide N LO HI KLO KHI`
 unfoldable pub toldAsked : List ℕ → Told
 toldAsked w = toldBy (behind space w)
+
+-- `halve DEPTH ROOM`, ROOM at most what so many halvings list
+pub record DeepAsked (r : Deep) (w : List ℕ) : Type 0 where
+  pub is : r ≡ deepBy (behind space w)
+  pub few : r .room ≤ boxesMax
 
 unfoldable pub toldStatus : List ℕ → Status
 toldStatus w = decideStatus (toldAsked w .n) (toldAsked w .x) (toldAsked w .k)

@@ -9,12 +9,15 @@ ghost use Rattle.writing.specs.Wrote.{placeMax, Wrote};
 ghost use Rattle.faults.specs.Answer.{Leaves};
 ghost use Rattle.desk.specs.Desk.{jobStatus, jobText};
 ghost use Rattle.step_text.specs.Texts.{boxStatus, boxImage};
-ghost use Rattle.answers.specs.Answers.{boxAsked, toldAsked, toldStatus, toldText, statusOf, textOf};
+ghost use Rattle.answers.specs.Answers.{boxAsked, toldAsked, DeepAsked, toldStatus, toldText};
+ghost use Rattle.answers.specs.Answers.{statusOf, textOf};
 ghost use Rattle.answers.specs.Answers.{roomMax, faultBytes, lineMax, Tells, Puts};
 use crate::parts::hand_over;
 use arguments::Boxed;
+use arguments::Deep;
 use arguments::Told;
 use arguments::box_of;
+use arguments::deep_of;
 use arguments::told_of;
 use arguments::words::first_word;
 use faults::Fault;
@@ -45,6 +48,15 @@ fn told_asked(words: &[u8]) -> Told
     let word = first_word(words);
     let next = word.next;
     told_of(&words[next..])
+}
+
+// What `halve DEPTH ROOM` is told.
+pub fn deep_asked(words: &[u8]) -> Deep
+    ensures { λ r. ⌜ DeepAsked r (now (words .entry)) ⌝ }
+{
+    let word = first_word(words);
+    let next = word.next;
+    deep_of(&words[next..])
 }
 
 fn reply_image(words: &[u8], text: &[u8], out: &mut [u8]) -> Written

@@ -1,2 +1,3 @@
 pub mod Values
 pub mod Fields
+pub mod Rooms

@@ -4,3 +4,4 @@ pub mod Words
 pub mod Lists
 pub mod Boxes
 pub mod Lengths
+pub mod Depths

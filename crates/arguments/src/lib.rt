@@ -1,6 +1,7 @@
-// The numbers that a request's line carries: counts, lengths, lists of long numbers, boxes.
+// The numbers that a request's line carries: counts, lengths, lists of long numbers, boxes, depths.
 pub mod boxes;
 pub mod counts;
+pub mod depths;
 pub mod lengths;
 pub mod longs;
 pub mod words;
@@ -11,6 +12,8 @@ pub use boxes::box_of;
 pub use boxes::told_of;
 pub use counts::Counted;
 pub use counts::count_of;
+pub use depths::Deep;
+pub use depths::deep_of;
 pub use lengths::are_lengths;
 pub use longs::Places;
 pub use longs::list_of;

@@ -5,6 +5,7 @@ use mathlib.Core.Path.{_≡_, ap, _∙_}
 use mathlib.Core.List.{List, [], _++_}
 use mathlib.Core.Logic.{_↔_}
 use Prim.Native.Nat.{ℕ, _≤_, _<_}
+use lib.IntN.{ℤ}
 use lib.ListN.{length, drop}
 use Rattle.sizes.specs.Sizes.{textMax}
 use Rattle.checks.specs.Checks.{checkJob}
@@ -15,6 +16,7 @@ use Rattle.jobs.specs.declared.Result.{Result}
 use Rattle.faults.specs.Answer.{Leaves}
 use Rattle.faults.specs.declared.Written.{Written}
 use Rattle.one_step.specs.OneStep.{givesImage, givesMove}
+use Rattle.halving.specs.Halving.{halveStatus}
 use Rattle.run.specs.Job.{runJob}
 use Rattle.job_form.specs.JobForm.{readJob}
 use Rattle.job_form.specs.JobBytes.{jobBytes}
@@ -24,7 +26,7 @@ use Rattle.job_parts.specs.declared.Parts.{Parts}
 use Rattle.job_parts.specs.Parts.{partTaken}
 use Rattle.desk.specs.Desk.{jobStatus, jobText, resultStatus, resultText, solveStatus, solveText}
 use Rattle.entries.specs.Numbers.{told, tell, orElse, shortBuffer, firstGiven, jobRows, resultRows}
-use Rattle.entries.specs.Numbers.{imageRows, decideRows, partsRows}
+use Rattle.entries.specs.Numbers.{imageRows, decideRows, halveRows, partsRows}
 use Rattle.entries.proofs.Answered.{job-status, result-status, solve-status}
 use Rattle.slips.specs.Slips.{foundIn}
 use Rattle.phrases.specs.Says.{sentenceMax}
@@ -76,6 +78,12 @@ image = faults.image-first
 -- P7: "3 for that n, first; 4 beyond the image's range, then 5 for its ends crossed, after .. the box's own"
 pub decide : (n : ℕ) (x k : Ends) → told (givesMove n x k .status) ≡ firstGiven (decideRows n x k)
 decide = faults.decide-first
+
+-- ---- halving::halve, of a list of `room` numbers
+-- P8: "Refusals: the job's own, then 8 for depth not 0 to 8, then 7 where the list can't hold two to the power of the
+-- depth"
+pub halve : (j : Job) (depth : ℤ) (room : ℕ) → told (halveStatus j depth room) ≡ firstGiven (halveRows j depth room)
+halve = faults.halve-first
 
 -- ---- job_parts::take
 -- P1, a state carried between calls: 4, line 0, where a count, a length or a line number is beyond its limits

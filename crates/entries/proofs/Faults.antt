@@ -6,6 +6,7 @@ use mathlib.Core.Logic.{_↔_}
 use Prim.Native.Nat.{ℕ, zero, suc, _<_}
 use native.Mathlib.Omega.{arith}
 use lib.Dec.{eqb, ltb}
+use lib.IntN.{ℤ}
 use lib.ListN.{length}
 use borrow.Author.Tests.{lt-ltb, ltb-true, ne-eqb, eqb-false}
 use Rattle.faults.specs.Words.{faultNumber, numberOf}
@@ -24,11 +25,12 @@ use Rattle.entries.specs.Numbers.{Told, told, tell, orElse, shortBuffer,
 use Rattle.entries.specs.Numbers.{systemRows, pinRows, boxRows}
 use Rattle.entries.specs.Numbers.{jobRows, resultRows}
 use Rattle.one_step.specs.OneStep.{givesImage, givesMove}
+use Rattle.halving.specs.Halving.{halveStatus}
 use Rattle.one_step.proofs.Given.{image-status, decide-status}
 use Rattle.jobs.specs.declared.Ends.{Ends}
-use Rattle.entries.specs.Numbers.{imageRows, decideRows}
+use Rattle.entries.specs.Numbers.{imageRows, decideRows, halveRows}
 use Rattle.entries.proofs.Explained.{number-some}
-use Rattle.entries.proofs.Rows.{Tells, before, job-tells, result-tells, image-tells, decide-tells}
+use Rattle.entries.proofs.Rows.{Tells, before, job-tells, result-tells, image-tells, decide-tells, halve-tells}
 
 -- ---- values
 before-none : (st : Status) → before st (tell 0 0) ≡ told st
@@ -49,6 +51,10 @@ image-first j x = ap told (image-status j x) ∙ first-told (image-tells j x)
 
 pub decide-first : (n : ℕ) (x k : Ends) → told (givesMove n x k .status) ≡ firstGiven (decideRows n x k)
 decide-first n x k = ap told (decide-status n x k) ∙ first-told (decide-tells n x k)
+
+pub halve-first : (j : Job) (depth : ℤ) (room : ℕ)
+    → told (halveStatus j depth room) ≡ firstGiven (halveRows j depth room)
+halve-first j depth room = first-told (halve-tells j depth room)
 
 -- no row has the number 7
 abbrev without : List Row → Bool

@@ -17,3 +17,4 @@ pub mod BatchSettled
 pub mod UnitsSettled
 pub mod StepSettled
 pub mod PartsSettled
+pub mod HalvingSettled

@@ -17,6 +17,7 @@ use Rattle.checks.specs.Checks.{equationCheck, rowCheck, sidedCheck, systemChec
 use Rattle.checks.specs.Checks.{jobLineStatus, systemLines, headLines, bodyLines, checkJob}
 use Rattle.checks.specs.CheckResult.{countCheck, countedCheck, resultCheck, resultLineStatus, checkResult}
 use Rattle.faults.specs.declared.Fault.{Fault}
+use Rattle.halving.specs.Halving.{depthStatus, roomStatus, halveStatus}
 use Rattle.one_step.specs.OneStep.{endsCheck, imageStatus, decideCheck, decideStatus}
 use Rattle.jobs.specs.declared.Kind.{Kind}
 use Rattle.jobs.specs.declared.Ends.{Ends}
@@ -24,7 +25,7 @@ use Rattle.jobs.specs.declared.Job.{Job}
 use Rattle.jobs.specs.declared.Result.{Result}
 use Rattle.faults.specs.declared.Status.{Status}
 use Rattle.entries.specs.Numbers.{Told, told, Row, firstGiven, eachLine, systemRows, jobRows, resultRows}
-use Rattle.entries.specs.Numbers.{pinRows, boxRows, endsRows, imageRows, decideRows}
+use Rattle.entries.specs.Numbers.{pinRows, boxRows, endsRows, imageRows, decideRows, halveRows}
 
 -- what a status tells before the rest
 abbrev pub before : Status → Told → Told
@@ -142,3 +143,8 @@ unfolding decideCheck unknownsCheck
 decide-tells n x k =
     rw (line-first, line-first)
     (tell-row _ Fault.Unknowns 0 (tell-both (ends-tells n (pos endMax) x) (ends-tells n (pos imageMax) k)))
+
+pub halve-tells : (j : Job) (depth : ℤ) (room : ℕ) → Tells (halveRows j depth room) (halveStatus j depth room)
+unfolding halveStatus depthStatus roomStatus
+halve-tells j depth room =
+    tell-both (job-tells j) (tell-row _ Fault.Steps 0 (tell-one _ Fault.ShortBuffer 0))

@@ -1,11 +1,11 @@
 -- Document 01, "Fault numbers": what is told of an entry's status, and for values which fault, as a table. "lines are
 -- taken in order and the first bad line decides; in one line 2 comes before the others, then 3, then 4, then 5 or 6",
 -- "values handed over without text get the same checks in the same line order".
-use Prim.Native.Nat.{ℕ, zero, suc, _+_}
+use Prim.Native.Nat.{ℕ, zero, suc, _+_, _/_, _^_}
 use mathlib.Core.Bool.{Bool, cond, not}
 use mathlib.Core.List.{List, [], _∷_, _++_}
 use lib.Dec.{eqb, ltb, leb}
-use lib.IntN.{ℤ, pos}
+use lib.IntN.{ℤ, pos, natAbs}
 use lib.ListN.{length, getD}
 use Rattle.sizes.specs.Sizes.{nMax, stepsMax, numberMax, endMax, entryMax, imageMax}
 use Rattle.jobs.specs.Places.{equationAt, rowAt}
@@ -18,6 +18,8 @@ use Rattle.jobs.specs.declared.Kind.{Kind}
 use Rattle.jobs.specs.declared.Ends.{Ends}
 use Rattle.jobs.specs.declared.Job.{Job}
 use Rattle.jobs.specs.declared.Result.{Result}
+use Rattle.halving.specs.Lists.{listedPlaces}
+use Rattle.halving.specs.Halving.{depthIn}
 use Rattle.job_parts.specs.declared.Parts.{Parts}
 use Rattle.job_parts.specs.Limits.{fits}
 use Rattle.faults.specs.declared.Status.{Status}
@@ -125,6 +127,13 @@ imageRows j x = jobRows j ++ endsRows (j .head .n) (pos endMax) x
 abbrev pub decideRows : ℕ → Ends → Ends → List Row
 decideRows n x k =
     row 0 3 (not (goodUnknowns n)) ∷ (endsRows n (pos endMax) x ++ endsRows n (pos imageMax) k)
+
+-- P8: "the job's own, then 8 for depth not 0 to 8, then 7 where the list can't hold two to the power of the depth", for
+-- a list of `room` numbers
+abbrev pub halveRows : Job → ℤ → ℕ → List Row
+halveRows j depth room =
+    jobRows j
+    ++ (row 0 8 (not (depthIn depth)) ∷ row 0 7 (not (leb (2 ^ natAbs depth) (room / listedPlaces))) ∷ [])
 
 -- what is carried between the calls of a text in parts: document 02, P1
 unfoldable pub partsRows : Parts → List Row

@@ -4,7 +4,7 @@ use mathlib.Core.Path.{_≡_}
 use Rattle.sizes.specs.Sizes.{textMax}
 use Rattle.requests.specs.Packets.{headerMax}
 use Rattle.answers.specs.Answers.{roomMax, lineMax}
-use Rattle.floodrafter.specs.declared.batch.Hand.{Hand}
+use Rattle.floodrafter.specs.declared.hand.Hand.{Hand}
 
 abbrev pub blockMax : ℕ
 blockMax = 65536

@@ -4,15 +4,24 @@ ghost use Prim.Native.Nat.{_+_, _≤_};
 ghost use mathlib.Core.Path.{_≡_};
 ghost use lib.ListN.{length};
 ghost use Rattle.floodrafter.specs.Hand.{inMax, outMax, InHand, Nothing};
+use crate::hand::BLOCK;
+use crate::hand::Hand;
+use crate::hand::add;
+use crate::hand::ended;
+use crate::hand::going;
+use crate::lists::NUMBERS;
+use crate::lists::add_listing;
 use crate::outcomes::Outcome;
 use crate::outcomes::written;
 use crate::streams::put;
 use crate::streams::read_some;
 use answers::ROOM;
-use answers::put_answer;
+use answers::deep_asked;
 use answers::reply;
 use answers::tell;
 use digits::DIGITS;
+use halving::LISTED;
+use listing::list_text;
 use requests::Op;
 use requests::packets::HEADER;
 use requests::packets::Packet;
@@ -21,21 +30,9 @@ use requests::packets::look;
 use sizes::TEXT;
 use text::piece_end;
 
-const BLOCK: usize = 65536;
-
 const IN: usize = HEADER + TEXT + 1 + BLOCK;
 
 const OUT: usize = BLOCK + ROOM + DIGITS + 1;
-
-// The bytes at..end of the input's block are not yet answered, and the first `used` bytes of the output's not yet
-// written.
-struct Hand {
-    going: bool,
-    outcome: Outcome,
-    at: usize,
-    end: usize,
-    used: usize,
-}
 
 // What is known of a block is its length.
 fn in_block() -> [u8; IN]
@@ -50,36 +47,12 @@ fn out_block() -> [u8; OUT]
     [0; OUT]
 }
 
-fn going(at: usize, end: usize, used: usize) -> Hand
-    ensures { λ r. ⌜ (r .at ≡ at) × (r .end ≡ end) × (r .used ≡ used) ⌝ }
-{
-    Hand {
-        going: true,
-        outcome: Outcome::Answered,
-        at,
-        end,
-        used,
-    }
-}
-
-fn ended(outcome: Outcome) -> Hand
-    ensures { λ r. ⌜ Nothing r ⌝ }
-{
-    Hand {
-        going: false,
-        outcome,
-        at: 0,
-        end: 0,
-        used: 0,
-    }
-}
-
 fn bad_line() -> Hand
     ensures { λ r. ⌜ Nothing r ⌝ }
 {
     let whole = put(
-        b"error=expected a line of solve, job, result, parts L1,L2,.., image, image LO HI or \
-        decide N LO HI KLO KHI, and a length in digits (decide: 0), one space between words\n",
+        b"error=expected a line of solve, job, result, parts L1,L2,.., image, image LO HI, \
+        decide N LO HI KLO KHI or halve DEPTH ROOM, and a length in digits (decide: 0), one space between words\n",
     );
     ended(written(whole, Outcome::NotRun))
 }
@@ -202,24 +175,6 @@ fn answer(op: Op, words: &[u8], text: &[u8], room: &mut [u8; ROOM]) -> usize
     tell(a, room)
 }
 
-// The first n bytes of the room are an answer.
-fn add(out: &mut [u8], h: Hand, room: &[u8; ROOM], n: usize) -> Hand
-    requires { ⌜ InHand h (h .end) ⌝ }
-    requires { ⌜ outMax ≤ length (now out) ⌝ }
-    requires { ⌜ n ≤ length (now room) ⌝ }
-    ensures { λ r. ⌜ InHand r (h .end) ⌝ }
-{
-    let whole = &room[..];
-    let used = put_answer(out, h.used, &whole[0..n]);
-    if used <= BLOCK {
-        return going(h.at, h.end, used);
-    }
-    if put(&out[0..used]) {
-        return going(h.at, h.end, 0);
-    }
-    ended(Outcome::Unwritten)
-}
-
 // The answer is added once all of its request has come.
 fn ask(fd: i32, have: &mut [u8], out: &mut [u8], h: Hand, op: Op, p: Packet) -> Hand
     requires { ⌜ InHand h (length (now have)) ⌝ }
@@ -240,6 +195,45 @@ fn ask(fd: i32, have: &mut [u8], out: &mut [u8], h: Hand, op: Op, p: Packet) -> 
     next
 }
 
+// The same of a listing, into a list of as many numbers as the request gives it room for.
+fn ask_list(
+    fd: i32,
+    have: &mut [u8],
+    out: &mut [u8],
+    h: Hand,
+    p: Packet,
+    depth: i64,
+    list: &mut [i64],
+) -> Hand
+    requires { ⌜ InHand h (length (now have)) ⌝ }
+    requires { ⌜ outMax ≤ length (now out) ⌝ }
+    requires { ⌜ (p .words ≤ p .from) × (p .from ≤ p .to) × (h .at + p .to ≤ h .end) ⌝ }
+    ensures { λ r. ⌜ InHand r (length (now (have .entry))) ⌝ }
+{
+    let from = h.at + p.from;
+    let to = h.at + p.to;
+    let l = list_text(&have[from..to], depth, list);
+    let next = pass(fd, have, out, going(to, h.end, h.used), p.passed);
+    if next.going {
+        return add_listing(out, next, l, list);
+    }
+    next
+}
+
+fn ask_boxes(fd: i32, have: &mut [u8], out: &mut [u8], h: Hand, p: Packet) -> Hand
+    requires { ⌜ InHand h (length (now have)) ⌝ }
+    requires { ⌜ outMax ≤ length (now out) ⌝ }
+    requires { ⌜ (p .words ≤ p .from) × (p .from ≤ p .to) × (h .at + p .to ≤ h .end) ⌝ }
+    ensures { λ r. ⌜ InHand r (length (now (have .entry))) ⌝ }
+{
+    let at = h.at;
+    let words = at + p.words;
+    let deep = deep_asked(&have[at..words]);
+    let numbers = LISTED * deep.room;
+    let mut list = [0i64; NUMBERS];
+    ask_list(fd, have, out, h, p, deep.depth, &mut list[0..numbers])
+}
+
 // What the bytes at hand ask for next.
 fn turn(fd: i32, have: &mut [u8], out: &mut [u8], h: Hand) -> Hand
     requires { ⌜ InHand h (length (now have)) ⌝ }
@@ -254,6 +248,7 @@ fn turn(fd: i32, have: &mut [u8], out: &mut [u8], h: Hand) -> Hand
         Seen::More => more(fd, have, out, h),
         Seen::Bad => bad_request(out, h),
         Seen::Ask(op) => ask(fd, have, out, h, op, p),
+        Seen::List => ask_boxes(fd, have, out, h, p),
     }
 }
 

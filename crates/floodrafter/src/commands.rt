@@ -10,11 +10,14 @@ use text::same_bytes;
 // What reads a FILE.
 pub enum Work {
     One(How),
+    Halve(i64),
     Batch,
 }
 
 pub enum Command {
     Read(Work),
+    // A depth stands before the FILE.
+    Halve,
     Help,
     Version,
     Unknown,
@@ -33,6 +36,9 @@ pub fn command_of(word: &[u8]) -> Command {
     }
     if same_bytes(word, b"step") {
         return Command::Read(Work::One(How::Step));
+    }
+    if same_bytes(word, b"halve") {
+        return Command::Halve;
     }
     if same_bytes(word, b"job") {
         return Command::Read(Work::One(How::Reply(Op::Job)));
@@ -60,6 +66,13 @@ pub fn wrong_call() -> Outcome {
 
 pub fn unknown(word: &[u8]) -> Outcome {
     say(b"floodrafter: there is no command '");
+    say(word);
+    say(b"'\n");
+    wrong_call()
+}
+
+pub fn no_depth(word: &[u8]) -> Outcome {
+    say(b"floodrafter: expected a depth after halve, a whole number, not '");
     say(word);
     say(b"'\n");
     wrong_call()

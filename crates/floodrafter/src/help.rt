@@ -15,6 +15,9 @@ pub fn commands(fd: i32) -> bool {
         floodrafter show [FILE]     the same, and each unknown's range in units\n\
         floodrafter image [FILE]    the image K of a job's starting box, before it is used: klo=, khi=\n\
         floodrafter step [FILE]     the same, and what it decides: verdict= none, unique, stalled or next, lo=, hi=\n\
+        floodrafter halve DEPTH [FILE]\n\
+        \x20                           all closing positions, by halvings 0 to 8 deep: job=, boxes=, then for each\n\
+        \x20                           box its word, box= unique or open, and lo=, hi=\n\
         floodrafter job [FILE]      reads a job text and writes it again\n\
         floodrafter result [FILE]   reads a result text and writes it again\n\
         floodrafter batch [FILE]    many requests in one run: floodrafter help batch tells how\n\
@@ -41,6 +44,7 @@ fn requests(fd: i32) -> bool {
         \x20   image                     K of a job text's own box\n\
         \x20   image LO HI               K of a job text and this box\n\
         \x20   decide N LO HI KLO KHI    what a box of N unknowns and its image decide; LENGTH is 0\n\
+        \x20   halve DEPTH ROOM          all closing positions of a job text, in a list of ROOM boxes, at most 256\n\
         LO, HI, KLO and KHI are lists joined by commas, of numbers in marks of up to 18 digits; a missing\n\
         place is 0. LENGTH, N and L1,L2,.. are in digits with no leading zero. Bytes of a line, its line\n\
         feed among them, at most: ",

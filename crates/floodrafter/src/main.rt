@@ -1,17 +1,22 @@
 // The program floodrafter: texts in, texts out, over the proved desk.
 mod batch;
 mod commands;
+mod hand;
 mod help;
+mod lists;
 mod outcomes;
 mod people;
 mod streams;
 
+use arguments::long_number;
 use commands::Command;
 use commands::Work;
 use commands::command_of;
+use commands::no_depth;
 use commands::too_many;
 use commands::unknown;
 use commands::wrong_call;
+use digits::Number;
 use libc::STDIN_FILENO;
 use libc::STDOUT_FILENO;
 use outcomes::Outcome;
@@ -40,6 +45,7 @@ fn told(outcome: Outcome, name: &[u8]) -> Outcome {
 fn answer(work: Work, fd: i32, name: &[u8]) -> Outcome {
     let outcome = match work {
         Work::One(how) => people::one(how, fd, name),
+        Work::Halve(depth) => people::halve(depth, fd, name),
         Work::Batch => batch::all(fd),
     };
     told(outcome, name)
@@ -55,9 +61,9 @@ fn on_file(work: Work, path: &[u8]) -> Outcome {
     outcome
 }
 
-fn on_argument(work: Work) -> Outcome {
+fn on_argument(work: Work, place: usize) -> Outcome {
     let mut path = io::buffer();
-    let n = os::arg(2, &mut path);
+    let n = os::arg(place, &mut path);
     if os::errno() != 0 {
         return told(Outcome::Unread, b"FILE");
     }
@@ -67,14 +73,25 @@ fn on_argument(work: Work) -> Outcome {
     on_file(work, &path[..n])
 }
 
-fn read(work: Work, count: usize) -> Outcome {
-    if count == 2 {
+// FILE is the argument `place`, if there is one.
+fn read(work: Work, count: usize, place: usize) -> Outcome {
+    if count <= place {
         return answer(work, STDIN_FILENO, b"standard input");
     }
-    if count == 3 {
-        return on_argument(work);
+    if count - 1 == place {
+        return on_argument(work, place);
     }
     too_many()
+}
+
+fn halve(count: usize) -> Outcome {
+    let mut word = io::buffer();
+    let n = os::arg(2, &mut word);
+    let depth = long_number(&word[..n]);
+    match depth {
+        Number::Is(d) => read(Work::Halve(d), count, 3),
+        Number::Bad => no_depth(&word[..n]),
+    }
 }
 
 fn shown(whole: bool) -> Outcome {
@@ -120,7 +137,8 @@ fn run() -> Outcome {
     let n = os::arg(1, &mut word);
     let command = command_of(&word[..n]);
     match command {
-        Command::Read(work) => read(work, count),
+        Command::Read(work) => read(work, count, 2),
+        Command::Halve => halve(count),
         Command::Help => show_help(count),
         Command::Version => show_version(count),
         Command::Unknown => unknown(&word[..n]),

@@ -1,6 +1,9 @@
 // For people: one text's answer, and a plain sentence beside a fault.
 ghost use Prim.Native.Nat.{_≤_};
 ghost use Rattle.phrases.specs.Says.{sentenceMax};
+use crate::lists::NUMBERS;
+use crate::lists::print;
+use crate::lists::put_fault;
 use crate::outcomes::Outcome;
 use crate::streams::fill;
 use crate::streams::put;
@@ -11,10 +14,12 @@ use answers::reply;
 use answers::tell;
 use faults::Status;
 use faults::Written;
+use listing::list_text;
 use requests::Op;
 use sentences::SENTENCE;
 use sentences::explain_job;
 use sentences::explain_result;
+use sizes::DEPTH;
 use sizes::TEXT;
 
 // What a text is answered by.
@@ -54,6 +59,16 @@ fn explain(result: bool, text: &[u8], out: &mut [u8]) -> usize
     explain_job(text, out)
 }
 
+// A text without a fault has no sentence: then it is the depth that was refused.
+fn say_sentence(sentence: &[u8]) {
+    if sentence.len() == 0 {
+        say(b"expected a depth of 0 to ");
+        say_number(DEPTH);
+    }
+    say(sentence);
+    say(b"\n");
+}
+
 // On standard error, as `job.txt:8: fault 6: ..`.
 fn tell_fault(result: bool, status: Status, name: &[u8], text: &[u8]) -> Outcome {
     match status {
@@ -69,11 +84,35 @@ fn tell_fault(result: bool, status: Status, name: &[u8], text: &[u8]) -> Outcome
             say(b": fault ");
             say_number(faults::fault_number(f));
             say(b": ");
-            say(&sentence[0..n]);
-            say(b"\n");
+            say_sentence(&sentence[0..n]);
             Outcome::Fault
         }
     }
+}
+
+fn list(depth: i64, text: &[u8], name: &[u8], list: &mut [i64]) -> Outcome {
+    let l = list_text(text, depth, list);
+    let status = l.status;
+    let whole = match status {
+        Status::Done => print(l, list),
+        Status::Refused(f, line) => put_fault(Status::Refused(f, line)),
+    };
+    if whole {
+        return tell_fault(false, status, name, text);
+    }
+    Outcome::Unwritten
+}
+
+// All closing positions of a job text.
+pub fn halve(depth: i64, fd: i32, name: &[u8]) -> Outcome {
+    let mut buf = [0u8; TEXT + 1];
+    let came = fill(fd, &mut buf);
+    if came.failed {
+        return Outcome::Unread;
+    }
+    let n = came.n;
+    let mut numbers = [0i64; NUMBERS];
+    list(depth, &buf[0..n], name, &mut numbers)
 }
 
 // Of a text that is too long, one byte more than may be is read.

@@ -22,7 +22,7 @@ use Rattle.halving.specs.Lists.{listedPlaces, uniqueNumber, numbersIn, n
 use Rattle.halving.proofs.Put.{put-append, put-one}
 
 module _ (n : ℕ) where
-  box-numbers : (b : Listed) → length (numbersIn n b) ≡ listedPlaces
+  pub box-numbers : (b : Listed) → length (numbersIn n b) ≡ listedPlaces
   unfolding numbersIn
   box-numbers b =
       ap suc (length-append (lowEnds n (b .sides)) (highEnds n (b .sides)) ∙ rw (low, high))

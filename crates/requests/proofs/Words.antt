@@ -21,6 +21,8 @@ words-asked (Named.Is op) (Counted.Is n) words = by (takesText op n)
     by true = omega arith
     by false = omega arith
 words-asked (Named.Is op) Counted.Bad words = omega arith
+words-asked Named.Lists (Counted.Is n) words = omega arith
+words-asked Named.Lists Counted.Bad words = omega arith
 words-asked Named.Unknown n words = omega arith
 
 words-split : (at : ℕ) (l : List ℕ) → at ≤ length l → wordsOf (split at l) ≤ length l

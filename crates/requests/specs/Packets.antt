@@ -28,11 +28,15 @@ abbrev pub without : Seen → Packet
 without s = record { seen = s; words = 0; from = 0; to = 0; passed = 0 }
 
 -- of n bytes at hand, those from `from` on are of the text
+unfoldable pub textOf : Seen → ℕ → ℕ → ℕ → ℕ → Packet
+textOf seen length words from n =
+    cond (ltb n (from + keptOf length)) (without Seen.More)
+    (record { seen = seen; words = words; from = from; to = from + keptOf length; passed = passedOf length })
+
 unfoldable pub textAt : Request → ℕ → ℕ → Packet
 textAt Request.Bad from n = without Seen.Bad
-textAt (Request.Ask op length words) from n =
-    cond (ltb n (from + keptOf length)) (without Seen.More)
-    (record { seen = Seen.Ask op; words = words; from = from; to = from + keptOf length; passed = passedOf length })
+textAt (Request.Ask op length words) from n = textOf (Seen.Ask op) length words from n
+textAt (Request.List length words) from n = textOf Seen.List length words from n
 
 unfoldable pub lookAt : ℕ → List ℕ → Packet
 lookAt end have =
@@ -47,6 +51,7 @@ lookOf have = lookAt (placeOf lineFeed have) have
 -- how many bytes of its line say what is asked
 abbrev pub wordsOf : Request → ℕ
 wordsOf (Request.Ask op length words) = words
+wordsOf (Request.List length words) = words
 wordsOf Request.Bad = 0
 
 -- a packet of n bytes at hand, and that its words and behind them its text are among them

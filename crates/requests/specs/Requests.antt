@@ -11,6 +11,7 @@ use Rattle.arguments.specs.Counts.{countBy}
 use Rattle.arguments.specs.Words.{space, before, behind}
 use Rattle.arguments.specs.Lengths.{areLengths}
 use Rattle.arguments.specs.Boxes.{boxedBy, toldBy}
+use Rattle.arguments.specs.Depths.{deepBy}
 use Rattle.arguments.specs.declared.counts.Counted.{Counted}
 use Rattle.requests.specs.declared.Op.{Op}
 use Rattle.requests.specs.declared.Named.{Named}
@@ -40,6 +41,10 @@ imageWord = 105 ∷ 109 ∷ 97 ∷ 103 ∷ 101 ∷ []
 abbrev pub decideWord : List ℕ
 decideWord = 100 ∷ 101 ∷ 99 ∷ 105 ∷ 100 ∷ 101 ∷ []
 
+-- `halve`
+abbrev pub halveWord : List ℕ
+halveWord = 104 ∷ 97 ∷ 108 ∷ 118 ∷ 101 ∷ []
+
 -- the operations without arguments
 unfoldable pub plainOf : List ℕ → Named
 plainOf w =
@@ -49,19 +54,21 @@ plainOf w =
     (cond (sameBytes imageWord w) (Named.Is Op.Image)
     Named.Unknown)))
 
-unfoldable pub namedIf : Bool → Op → Named
-namedIf good op = cond good (Named.Is op) Named.Unknown
+unfoldable pub namedIf : Bool → Named → Named
+namedIf good name = cond good name Named.Unknown
 
--- those with arguments: `parts L1,L2,..`, `image LO HI`, `decide N LO HI KLO KHI`
+-- those with arguments: `parts L1,L2,..`, `image LO HI`, `decide N LO HI KLO KHI`, `halve DEPTH ROOM`
 unfoldable pub arguedOf : List ℕ → List ℕ → Named
 arguedOf first rest =
-    cond (sameBytes partsWord first) (namedIf (areLengths rest) Op.Parts)
-    (cond (sameBytes imageWord first) (namedIf (boxedBy rest .good) Op.ImageIn)
-    (cond (sameBytes decideWord first) (namedIf (toldBy rest .good) Op.Decide)
-    Named.Unknown))
+    cond (sameBytes partsWord first) (namedIf (areLengths rest) (Named.Is Op.Parts))
+    (cond (sameBytes imageWord first) (namedIf (boxedBy rest .good) (Named.Is Op.ImageIn))
+    (cond (sameBytes decideWord first) (namedIf (toldBy rest .good) (Named.Is Op.Decide))
+    (cond (sameBytes halveWord first) (namedIf (deepBy rest .good) Named.Lists)
+    Named.Unknown)))
 
 unfoldable pub orNamed : Named → Named → Named
 orNamed (Named.Is op) next = Named.Is op
+orNamed Named.Lists next = Named.Lists
 orNamed Named.Unknown next = next
 
 -- the table of the operations
@@ -82,6 +89,8 @@ takesText Op.Decide n = eqb n 0
 unfoldable pub asked : Named → Counted → ℕ → Request
 asked (Named.Is op) (Counted.Is n) words = cond (takesText op n) (Request.Ask op n words) Request.Bad
 asked (Named.Is op) Counted.Bad words = Request.Bad
+asked Named.Lists (Counted.Is n) words = Request.List n words
+asked Named.Lists Counted.Bad words = Request.Bad
 asked Named.Unknown n words = Request.Bad
 
 -- the place behind the last space among the first i bytes; 0 where there is none

@@ -10,6 +10,7 @@ use arguments::Counted;
 use arguments::are_lengths;
 use arguments::box_of;
 use arguments::count_of;
+use arguments::deep_of;
 use arguments::told_of;
 use arguments::words::first_word;
 use text::same_bytes;
@@ -24,14 +25,17 @@ pub enum Op {
     Decide,
 }
 
+// `halve` lists boxes, which no answer of the others is long enough for.
 pub enum Named {
     Is(Op),
+    Lists,
     Unknown,
 }
 
 // What is asked, how many bytes its text has, and how many of the line's say what is asked.
 pub enum Request {
     Ask(Op, u64, usize),
+    List(u64, usize),
     Bad,
 }
 
@@ -54,11 +58,11 @@ fn plain(words: &[u8]) -> Named
     Named::Unknown
 }
 
-fn named_if(good: bool, op: Op) -> Named
-    ensures { λ r. ⌜ r ≡ namedIf good op ⌝ }
+fn named_if(good: bool, name: Named) -> Named
+    ensures { λ r. ⌜ r ≡ namedIf good name ⌝ }
 {
     if good {
-        return Named::Is(op);
+        return name;
     }
     Named::Unknown
 }
@@ -68,15 +72,19 @@ fn argued(first: &[u8], rest: &[u8]) -> Named
     ensures { λ r. ⌜ r ≡ arguedOf (now (first .entry)) (now (rest .entry)) ⌝ }
 {
     if same_bytes(first, b"parts") {
-        return named_if(are_lengths(rest), Op::Parts);
+        return named_if(are_lengths(rest), Named::Is(Op::Parts));
     }
     if same_bytes(first, b"image") {
         let x = box_of(rest);
-        return named_if(x.good, Op::ImageIn);
+        return named_if(x.good, Named::Is(Op::ImageIn));
     }
     if same_bytes(first, b"decide") {
         let told = told_of(rest);
-        return named_if(told.good, Op::Decide);
+        return named_if(told.good, Named::Is(Op::Decide));
+    }
+    if same_bytes(first, b"halve") {
+        let deep = deep_of(rest);
+        return named_if(deep.good, Named::Lists);
     }
     Named::Unknown
 }
@@ -88,6 +96,7 @@ pub fn operation(words: &[u8]) -> Named
     let name = plain(words);
     match name {
         Named::Is(op) => Named::Is(op),
+        Named::Lists => Named::Lists,
         Named::Unknown => {
             let word = first_word(words);
             let end = word.end;
@@ -140,11 +149,21 @@ fn sized(op: Op, length: Counted, words: usize) -> Request
     }
 }
 
+fn sized_list(length: Counted, words: usize) -> Request
+    ensures { λ r. ⌜ r ≡ asked Named.Lists length words ⌝ }
+{
+    match length {
+        Counted::Is(n) => Request::List(n, words),
+        Counted::Bad => Request::Bad,
+    }
+}
+
 fn made(name: Named, length: Counted, words: usize) -> Request
     ensures { λ r. ⌜ r ≡ asked name length words ⌝ }
 {
     match name {
         Named::Is(op) => sized(op, length, words),
+        Named::Lists => sized_list(length, words),
         Named::Unknown => Request::Bad,
     }
 }

@@ -2,7 +2,7 @@
 ghost use mathlib.Core.Path.{_≡_};
 ghost use Prim.Native.Nat.{_≤_};
 ghost use lib.ListN.{length};
-ghost use Rattle.requests.specs.Packets.{headerMax, keptOf, passedOf, without, textAt, wordsOf, lookOf, Inside};
+ghost use Rattle.requests.specs.Packets.{headerMax, keptOf, passedOf, without, textOf, textAt, wordsOf, lookOf, Inside};
 use crate::Op;
 use crate::Request;
 use crate::request_of;
@@ -15,6 +15,7 @@ pub enum Seen {
     More,
     Bad,
     Ask(Op),
+    List,
 }
 
 // The first `words` bytes at hand say what is asked, what is kept of the text stands from..to; behind it `passed` bytes
@@ -56,7 +57,25 @@ fn nothing(seen: Seen) -> Packet
     }
 }
 
-// The text begins at `from`, and n bytes are at hand.
+// A text of so many bytes begins at `from`, and n bytes are at hand.
+fn text_of(seen: Seen, length: u64, words: usize, from: usize, n: usize) -> Packet
+    requires { ⌜ (from ≤ headerMax) × (from ≤ n) ⌝ }
+    requires { ⌜ words ≤ from ⌝ }
+    ensures { λ r. ⌜ Inside r (textOf seen length words from n) n ⌝ }
+{
+    let to = from + kept(length);
+    if n < to {
+        return nothing(Seen::More);
+    }
+    Packet {
+        seen,
+        words,
+        from,
+        to,
+        passed: passed(length),
+    }
+}
+
 fn text_at(request: Request, from: usize, n: usize) -> Packet
     requires { ⌜ (from ≤ headerMax) × (from ≤ n) ⌝ }
     requires { ⌜ wordsOf request ≤ from ⌝ }
@@ -64,19 +83,8 @@ fn text_at(request: Request, from: usize, n: usize) -> Packet
 {
     match request {
         Request::Bad => nothing(Seen::Bad),
-        Request::Ask(op, length, words) => {
-            let to = from + kept(length);
-            if n < to {
-                return nothing(Seen::More);
-            }
-            Packet {
-                seen: Seen::Ask(op),
-                words,
-                from,
-                to,
-                passed: passed(length),
-            }
-        }
+        Request::Ask(op, length, words) => text_of(Seen::Ask(op), length, words, from, n),
+        Request::List(length, words) => text_of(Seen::List, length, words, from, n),
     }
 }
 

@@ -16,13 +16,17 @@ returns c = rw (← c .before .before .before .plain .ensures, c .before .name .
 
 returns-2 : tie.Need-returns-2
 unfolding operationOf orNamed
-returns-2 c =
+returns-2 c = rw (← c .before .before .plain .ensures, c .enum-told .given .1)
+
+returns-3 : tie.Need-returns-3
+unfolding operationOf orNamed
+returns-3 c =
     let word = c .before .before .before in
     let told = word .before in
     let words = told .before .before .before .before .args .words .now in
     rw (
       ← told .before .before .plain .ensures,
-      told .enum-told .given .1,
+      told .enum-told2 .given .1,
       ← word .first-word .ensures .first,
       ← word .first-word .ensures .rest,
       ← to-end (word .first-word .result .next) words,
@@ -32,6 +36,6 @@ returns-2 c =
 pub operation-spec : {M : Type 1} → statement M
 operation-spec =
     tie.close
-    (tie.spec (λ c κs. search needs) (λ c. search needs) (λ c. search needs) (λ c κs. search needs)
+    (tie.spec (λ c κs. search needs) (λ c. search needs) (λ c. search needs) (λ c. search needs) (λ c κs. search needs)
     slice-aggregate-argued (λ c. search needs) (λ c. search needs) (λ c. search needs) (λ c κs. search needs) returns
-    returns-2)
+    returns-2 returns-3)
