@@ -1,10 +1,10 @@
 // The commands, and what is said of a call that names none of them.
 use crate::help;
-use crate::outcomes::Outcome;
 use crate::people::How;
-use crate::streams::say;
 use libc::STDERR_FILENO;
 use requests::Op;
+use streams::outcomes::Outcome;
+use streams::say;
 use text::same_bytes;
 
 // What reads a FILE.

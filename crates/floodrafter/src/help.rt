@@ -1,7 +1,7 @@
 // What is told of the program itself.
-use crate::streams::write_number;
-use crate::streams::write_whole;
 use requests::packets::HEADER;
+use streams::write_number;
+use streams::write_whole;
 
 // One more with each change that may answer a text otherwise than before. 2: a square can't be negative. 3: a pin line.
 pub fn version(fd: i32) -> bool {

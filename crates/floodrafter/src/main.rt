@@ -1,12 +1,7 @@
 // The program floodrafter: texts in, texts out, over the proved desk.
-mod batch;
 mod commands;
-mod hand;
 mod help;
-mod lists;
-mod outcomes;
 mod people;
-mod streams;
 
 use arguments::long_number;
 use commands::Command;
@@ -19,9 +14,9 @@ use commands::wrong_call;
 use digits::Number;
 use libc::STDIN_FILENO;
 use libc::STDOUT_FILENO;
-use outcomes::Outcome;
-use outcomes::hand_over;
-use outcomes::written;
+use streams::outcomes::Outcome;
+use streams::outcomes::hand_over;
+use streams::outcomes::written;
 use streams::say;
 use text::same_bytes;
 

@@ -1,17 +1,12 @@
 // For people: one text's answer, and a plain sentence beside a fault.
 ghost use Prim.Native.Nat.{_≤_};
 ghost use Rattle.phrases.specs.Says.{sentenceMax};
-use crate::lists::NUMBERS;
-use crate::lists::print;
-use crate::lists::put_fault;
-use crate::outcomes::Outcome;
-use crate::streams::fill;
-use crate::streams::put;
-use crate::streams::say;
-use crate::streams::say_number;
 use answers::ROOM;
 use answers::reply;
 use answers::tell;
+use batch::lists::NUMBERS;
+use batch::lists::print;
+use batch::lists::put_fault;
 use faults::Status;
 use faults::Written;
 use listing::list_text;
@@ -21,6 +16,11 @@ use sentences::explain_job;
 use sentences::explain_result;
 use sizes::DEPTH;
 use sizes::TEXT;
+use streams::fill;
+use streams::outcomes::Outcome;
+use streams::put;
+use streams::say;
+use streams::say_number;
 
 // What a text is answered by.
 pub enum How {
