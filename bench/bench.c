@@ -1,93 +1,17 @@
 /* Times the library beside the peer, after both have given the same answers: bench REQUESTS, a file of requests.
  * For bench/count it also tells the name of a sort of job, bench name SORT, and does some work of one of the two: bench SOLVER WORK SORT TIMES. */
-#define _POSIX_C_SOURCE 200809L
-
 #include <stdio.h>
 #include <stdlib.h>
 #include <string.h>
-#include <time.h>
 
 #include "in_parts.h"
 #include "jobs.h"
 #include "peer.h"
 #include "same.h"
-
-enum { LIBRARY, PEER, SOLVERS };
+#include "timing.h"
 
 static const char targets[] = "Targets: with n=4 step 1.0 (16 terms), text to text 1.5, reading 1.5; "
                               "with n=1 step 3.0, text to text 3.0, reading 2.5.";
-
-/* Noise only ever adds time: the least of some rounds stands. */
-enum { ROUNDS = 9 };
-static const double round_seconds = 0.008;
-
-typedef floodrafter_answer solve_entry(const uint8_t *, size_t, uint8_t *, size_t);
-typedef floodrafter_answer check_entry(const uint8_t *, size_t);
-
-enum entry { CHECK, CHECK_PARTS, SOLVE };
-
-static check_entry *const check_entries[][SOLVERS] = {
-    [CHECK] = {floodrafter_check_job, peer_check_job}, [CHECK_PARTS] = {library_in_parts, peer_in_parts}};
-static solve_entry *const solve_entries[SOLVERS] = {floodrafter_solve, peer_solve};
-
-/* Seconds of one call, or of one step, of each solver. */
-struct times {
-    double of[SOLVERS];
-};
-
-/* The thread's own processor time, which what else the machine does hardly moves. */
-static double now(void)
-{
-    struct timespec t;
-    clock_gettime(CLOCK_THREAD_CPUTIME_ID, &t);
-    return (double)t.tv_sec + 1e-9 * (double)t.tv_nsec;
-}
-
-static double seconds_of(int solver, enum entry entry, const struct text *text, long calls)
-{
-    static uint8_t out[FLOODRAFTER_TEXT_MAX];
-    double start = now();
-    for (long k = 0; k < calls; k++) {
-        if (entry == SOLVE)
-            solve_entries[solver](text->bytes, text->len, out, sizeof out);
-        else
-            check_entries[entry][solver](text->bytes, text->len);
-    }
-    return now() - start;
-}
-
-/* How many calls fill a round. */
-static long calls_of(int solver, enum entry entry, const struct text *text)
-{
-    long calls = 1;
-    while (seconds_of(solver, entry, text, calls) < round_seconds / 2)
-        calls *= 2;
-    return calls * 2;
-}
-
-/* The solvers take turns, so that what slows the machine for a while slows both. */
-static struct times measure(enum entry entry, const struct text *text)
-{
-    struct times best;
-    long calls[SOLVERS];
-    for (int solver = 0; solver < SOLVERS; solver++) {
-        calls[solver] = calls_of(solver, entry, text);
-        best.of[solver] = 1e9;
-    }
-    for (int round = 0; round < ROUNDS; round++) {
-        for (int solver = 0; solver < SOLVERS; solver++) {
-            double one = seconds_of(solver, entry, text, calls[solver]) / (double)calls[solver];
-            if (one < best.of[solver])
-                best.of[solver] = one;
-        }
-    }
-    return best;
-}
-
-static double ratio(struct times t)
-{
-    return t.of[LIBRARY] / t.of[PEER];
-}
 
 /* The steps that a job's answer reports. */
 static long steps_of(const struct text *text)
@@ -112,6 +36,13 @@ static struct times measure_step(const struct text *run, const struct text *idle
 static void must_be_same(const struct text *text)
 {
     if (!same_answers(text->bytes, text->len))
+        exit(1);
+}
+
+static void must_be_same_halved(const struct text *text)
+{
+    size_t list_len = FLOODRAFTER_BOXES_MAX * FLOODRAFTER_LISTED;
+    if (!same_halved(text->bytes, text->len, FLOODRAFTER_DEPTH_MAX, list_len))
         exit(1);
 }
 
@@ -207,6 +138,30 @@ static void print_all_in_parts(void)
         print_in_parts(&sorts[sorts_in_parts[s]]);
 }
 
+/* The sorts whose boxes are halved too, and the steps of each run. bench/count has the same sorts. */
+static const size_t sorts_halved[] = {0, 1, 3, 6};
+enum { HALVED = sizeof sorts_halved / sizeof sorts_halved[0], HALVED_STEPS = 2 };
+
+static void print_halved(const struct sort *sort)
+{
+    struct text text;
+    write_job(sort, DEEP, HALVED_STEPS, &text);
+    struct times halved = measure(HALVE, &text);
+    size_t boxes = boxes_of(PEER, &text, FLOODRAFTER_DEPTH_MAX);
+    double library = (double)boxes / halved.of[LIBRARY], peer = (double)boxes / halved.of[PEER];
+    print_name(sort);
+    printf(" | %5zu %9.0f %9.0f %6.2f\n", boxes, library, peer, ratio(halved));
+    fflush(stdout);
+}
+
+static void print_all_halved(void)
+{
+    printf("\nHalving, text to list.\n%-19s | boxes a second at depth %d\n", "", FLOODRAFTER_DEPTH_MAX);
+    printf("%-19s | %5s %9s %9s %6s\n", "job", "boxes", "library", "peer", "ratio");
+    for (size_t s = 0; s < HALVED; s++)
+        print_halved(&sorts[sorts_halved[s]]);
+}
+
 /* Terms that make the longest job's text 2,047 bytes long. */
 enum { MORE_TERMS = 63 };
 
@@ -224,11 +179,17 @@ static void check_all(const char *requests)
         write_job(&sorts[s], SOON, 8, &text);
         must_be_same(&text);
     }
+    for (size_t s = 0; s < HALVED; s++) {
+        write_job(&sorts[sorts_halved[s]], DEEP, HALVED_STEPS, &text);
+        must_be_same(&text);
+        must_be_same_halved(&text);
+    }
     write_longest_job(0, &text);
     must_be_same(&text);
     write_longest_job(MORE_TERMS, &text);
     must_be_same(&text);
-    printf("The library and the peer answer alike: %zu requests of the file, %zu jobs of the bench.\n\n", count, 3 * sort_count + 2);
+    size_t jobs = 3 * sort_count + HALVED + 2;
+    printf("The library and the peer answer alike: %zu requests of the file, %zu jobs of the bench.\n\n", count, jobs);
 }
 
 static int tell_name(size_t sort)
@@ -239,7 +200,14 @@ static int tell_name(size_t sort)
     return 0;
 }
 
-/* The work of `times` steps on a job that takes many, or of as many calls on one that is soon decided. */
+/* The depth at which so many boxes are listed, where no run drops one. */
+static int64_t depth_for(int boxes)
+{
+    return boxes <= 1 ? 0 : 1 + depth_for(boxes / 2);
+}
+
+/* The work of `times` steps on a job that takes many, of as many boxes of one that is halved, or of as many calls on
+ * one that is soon decided. */
 static int do_work(const char *solver_name, const char *work, size_t sort, int times)
 {
     struct text text;
@@ -249,6 +217,9 @@ static int do_work(const char *solver_name, const char *work, size_t sort, int t
     if (strcmp(work, "steps") == 0) {
         write_job(&sorts[sort], LATE, times, &text);
         seconds_of(solver, SOLVE, &text, 1);
+    } else if (strcmp(work, "halve") == 0) {
+        write_job(&sorts[sort], DEEP, HALVED_STEPS, &text);
+        boxes_of(solver, &text, depth_for(times));
     } else {
         enum entry entry = strcmp(work, "solve") == 0 ? SOLVE : strcmp(work, "parts") == 0 ? CHECK_PARTS : CHECK;
         write_job(&sorts[sort], SOON, 8, &text);
@@ -279,5 +250,6 @@ int main(int count, char **words)
     print_longest("long text, fault 6", MORE_TERMS, &worst[UNKNOWNS]);
     print_worst(worst);
     print_all_in_parts();
+    print_all_halved();
     return 0;
 }

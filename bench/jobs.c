@@ -156,15 +156,20 @@ static void append_inverse(struct text *text, const struct sort *sort, long scal
         append_number(text, inverse_entry(sort, k / sort->n, k % sort->n, scale), k, count);
 }
 
+static long scale_of(enum pace pace)
+{
+    return pace == SOON ? one : pace == LATE ? one / 128 : one / 1024;
+}
+
 void write_job(const struct sort *sort, enum pace pace, int steps, struct text *text)
 {
     text->len = 0;
     append(text, "job=%d\nkind=%s\nn=%d\n", 41, sort->kind, sort->n);
     if (sort->pin > 0)
         append(text, "pin=%d\n", sort->pin);
-    append_list(text, "lo", pace == LATE ? one : one - 5003, sort->n);
-    append_list(text, "hi", pace == LATE ? one + one / 2 : one + 4001, sort->n);
-    append_inverse(text, sort, pace == LATE ? one / 128 : one);
+    append_list(text, "lo", pace == SOON ? one - 5003 : one, sort->n);
+    append_list(text, "hi", pace == SOON ? one + 4001 : one + one / 2, sort->n);
+    append_inverse(text, sort, scale_of(pace));
     append(text, "steps=%d\n", steps);
     for (int i = 0; i < sort->n; i++) {
         if (sort->kind[0] == 'p')

@@ -21,7 +21,7 @@ static bool equal(floodrafter_answer a, floodrafter_answer b)
     return a.fault == b.fault && a.line == b.line && a.len == b.len;
 }
 
-static void tell_text(const uint8_t *text, size_t text_len)
+void tell_text(const uint8_t *text, size_t text_len)
 {
     printf("text of %zu bytes:\n", text_len);
     fwrite(text, 1, text_len, stdout);
@@ -181,6 +181,13 @@ static bool same_in_parts(struct bytes text, struct cuts cuts)
     return false;
 }
 
+/* Two halvings, with the shortest list that is enough, and with one number less. */
+static bool same_halved_twice(const uint8_t *text, size_t text_len)
+{
+    enum { TWICE = 2, ENOUGH = FLOODRAFTER_LISTED << TWICE };
+    return same_halved(text, text_len, TWICE, ENOUGH) && same_halved(text, text_len, TWICE, ENOUGH - 1);
+}
+
 bool same_answers(const uint8_t *text, size_t text_len)
 {
     struct bytes all = {text, text_len};
@@ -193,20 +200,34 @@ bool same_answers(const uint8_t *text, size_t text_len)
     floodrafter_answer answer, again;
     if (!same_step(text, text_len) || !same_solved(text, text_len, FLOODRAFTER_TEXT_MAX, &answer))
         return false;
-    if (!same_in_parts(all, (struct cuts){.rest = all, .after = PART}))
+    if (!same_in_parts(all, (struct cuts){.rest = all, .after = PART}) || !same_halved_twice(text, text_len))
         return false;
     /* The shortest buffer that is enough, and one byte less. */
     return answer.fault != FLOODRAFTER_DONE ||
            (same_solved(text, text_len, answer.len, &again) && same_solved(text, text_len, answer.len - 1, &again));
 }
 
-/* The text of any request is a job's, or gets a fault as one; the parts, the box and the image that stand in the line
- * are held too. */
+/* `halve DEPTH ROOM LENGTH`, with a list for so many boxes. */
+static bool same_halving(const struct request *r)
+{
+    if (FLOODRAFTER_BOXES_MAX < r->room) {
+        printf("halve: no list of %zu boxes is lent here\n", r->room);
+        return false;
+    }
+    return same_halved(r->text.at, r->text.len, r->depth, r->room * FLOODRAFTER_LISTED);
+}
+
+/* The text of any request is a job's, or gets a fault as one; the parts, the box, the image, the depth and the list
+ * that stand in the line are held too. */
 static bool same_request(const struct request *r)
 {
     if (strcmp(r->word, "decide") == 0)
         return same_decided(r->n, r->x, r->k);
-    return same_answers(r->text.at, r->text.len) && (r->lengths == NULL || same_in_parts(r->text, cuts_of(r))) &&
+    if (!same_answers(r->text.at, r->text.len))
+        return false;
+    if (strcmp(r->word, "halve") == 0)
+        return same_halving(r);
+    return (r->lengths == NULL || same_in_parts(r->text, cuts_of(r))) &&
            (!r->boxed || same_image(r->text.at, r->text.len, r->x));
 }
 

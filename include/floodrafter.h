@@ -1,11 +1,12 @@
-/* Floodrafter for C: job texts answered, at once or in the parts that they arrive in, their steps shown one by one, job and result texts checked,
- * explained and written again.
+/* Floodrafter for C: job texts answered, at once or in the parts that they arrive in, their steps shown one by one, all their closing positions listed, job
+ * and result texts checked, explained and written again.
  *
  * Link with target/staticlib/libfloodrafter_c.a (x86-64), which `rt staticlib floodrafter_c` proves and writes. docs/C.md has an example.
  *
  * Every function takes any bytes, lengths and numbers. It keeps no state, allocates nothing and calls nothing but memcpy and memset, so that threads may call it
  * as they like; what is known of a text that arrives in parts, the caller carries from call to call.
- * What it needs of its caller: a pointer that is not null, also where its length is 0, with at least that many bytes behind it, and `out` apart from `text`. */
+ * What it needs of its caller: a pointer that is not null, also where its length is 0, with at least that many bytes (of `list`: numbers) behind it, and `out` and
+ * `list` apart from `text`. */
 #ifndef FLOODRAFTER_H
 #define FLOODRAFTER_H
 
@@ -28,6 +29,15 @@ extern "C" {
 /* The most terms of an equation. */
 #define FLOODRAFTER_TERMS_MAX 16
 
+/* The most halvings of a box, one within the other. */
+#define FLOODRAFTER_DEPTH_MAX 8
+
+/* The most boxes that so many halvings list: two to the power of the depth. */
+#define FLOODRAFTER_BOXES_MAX 256
+
+/* The numbers of a listed box, whatever n is: 1 for unique or 0 for open, FLOODRAFTER_N low ends, FLOODRAFTER_N high ends. */
+#define FLOODRAFTER_LISTED (1 + 2 * FLOODRAFTER_N)
+
 /* The faults of documents 01 and 02. */
 enum floodrafter_fault {
     FLOODRAFTER_DONE = 0,
@@ -37,8 +47,8 @@ enum floodrafter_fault {
     FLOODRAFTER_BEYOND = 4,       /* a number is beyond its size; the line is 0 for a number of a box or of a state handed in */
     FLOODRAFTER_CROSSED = 5,      /* a low end is above its high end; the line is that of the high ends, or 0 for a box handed in */
     FLOODRAFTER_TERMS = 6,        /* an eq line has over 16 terms, a zero coefficient, a degree over 3 or the wrong order */
-    FLOODRAFTER_SHORT_BUFFER = 7, /* the answer is longer than `out` */
-    FLOODRAFTER_STEPS = 8,        /* steps is not 0 to 1,000 */
+    FLOODRAFTER_SHORT_BUFFER = 7, /* the answer is longer than `out`, or `list` is too short for the depth */
+    FLOODRAFTER_STEPS = 8,        /* steps is not 0 to 1,000; with line 0, a depth is not 0 to FLOODRAFTER_DEPTH_MAX */
     FLOODRAFTER_PIN = 9           /* a pin line of an eigen job says n, or a number that is not 1 to n */
 };
 
@@ -73,6 +83,21 @@ size_t floodrafter_explain_job(const uint8_t *text, size_t text_len, uint8_t *ou
 
 /* The same for a result text. */
 size_t floodrafter_explain_result(const uint8_t *text, size_t text_len, uint8_t *out, size_t out_len);
+
+/* All closing positions of a job: how many boxes were listed. */
+typedef struct floodrafter_listing {
+    uint64_t fault; /* an enum floodrafter_fault */
+    uint64_t line;  /* the line of the fault, counted from 1; 0 for fault 1, for the depth, for the list, and where there is none */
+    size_t n;       /* the unknowns of the job; 0 beside a fault */
+    size_t boxes;   /* how many boxes were listed; 0 beside a fault */
+} floodrafter_listing;
+
+/* Halves the starting box of the job text `text`, at most `depth` times one within the other, and lists what is left: each box FLOODRAFTER_LISTED numbers
+ * from the start of `list` on, its places past n zero. Every fraction zero of the starting box lies in a listed box, and a box that is listed as unique
+ * holds at most one. `list_len` counts numbers: FLOODRAFTER_LISTED << depth of them are enough.
+ * Faults: 1 to 6, 8 and 9 of the job text; then, with line 0, 8 for a depth that is not 0 to FLOODRAFTER_DEPTH_MAX, and 7 where `list` can't hold two to
+ * the power of the depth boxes. A fault writes nowhere; the numbers of `list` past the last listed box are the old ones. */
+floodrafter_listing floodrafter_halve(const uint8_t *text, size_t text_len, int64_t depth, int64_t *list, size_t list_len);
 
 /* The steps of a job, one by one: floodrafter_start gives the box that the first begins on, floodrafter_image the image K of a box, and
  * floodrafter_decide what the two decide: a verdict, or the box of the next step. The run that floodrafter_solve does is made of the same two. */

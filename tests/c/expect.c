@@ -1,10 +1,9 @@
 #include "expect.h"
 
-#include <inttypes.h>
 #include <stdio.h>
 #include <string.h>
 
-enum { PRINTED = 64 };
+#include "printed.h"
 
 static unsigned long failed;
 
@@ -36,7 +35,14 @@ bool is_old(const uint8_t *from, size_t len)
 
 void expect_told(const struct asked *r, uint64_t fault, uint64_t line)
 {
-    char told[PRINTED];
-    int len = snprintf(told, sizeof told, "fault=%" PRIu64 "\nline=%" PRIu64 "\n", fault, line);
-    expect(same(r->answer, told, (size_t)len), r, "another fault or line");
+    struct printed told = {.len = 0};
+    print_count(&told, "fault", fault);
+    print_count(&told, "line", line);
+    expect(same(r->answer, told.text, told.len), r, "another fault or line");
+}
+
+void expect_zero_past(const struct asked *r, size_t n, floodrafter_box b)
+{
+    for (size_t i = n; i < FLOODRAFTER_N; i++)
+        expect(b.lo[i] == 0 && b.hi[i] == 0, r, "a place past n, or beside a fault, is not zero");
 }

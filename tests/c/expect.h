@@ -26,4 +26,7 @@ bool is_old(const uint8_t *from, size_t len);
 /* The answer expected is this fault: the program tells it in two lines. */
 void expect_told(const struct asked *r, uint64_t fault, uint64_t line);
 
+/* "places past n .. a reader and every result leave them zero"; beside a fault n is 0. */
+void expect_zero_past(const struct asked *r, size_t n, floodrafter_box b);
+
 #endif

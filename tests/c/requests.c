@@ -43,8 +43,15 @@ static const char *cut_line(struct bytes *from)
     return (const char *)cut(from, (size_t)(end - from->at) + 1).at;
 }
 
-/* How many words the four sorts of lines have. */
-enum { BARE = 2, WITH_LENGTHS = 3, WITH_BOX = 4, WITH_BOX_AND_IMAGE = 7, WORDS_MAX = WITH_BOX_AND_IMAGE };
+/* How many words the sorts of lines have: with a box and with a depth as many, and the operation tells which. */
+enum {
+    BARE = 2,
+    WITH_LENGTHS = 3,
+    WITH_BOX = 4,
+    WITH_DEPTH = 4,
+    WITH_BOX_AND_IMAGE = 7,
+    WORDS_MAX = WITH_BOX_AND_IMAGE
+};
 
 /* Where the words of a line begin. */
 struct words {
@@ -83,6 +90,15 @@ static size_t read_count(const char *from)
     return count;
 }
 
+static int64_t read_number(const char *from)
+{
+    char *end;
+    int64_t number = strtoll(from, &end, 10);
+    if (end == from || *end != ' ')
+        broken("a request has no number where one belongs");
+    return number;
+}
+
 static void read_ends(const char *from, int64_t *ends)
 {
     char *end;
@@ -104,24 +120,35 @@ static floodrafter_box read_box(const char *lo, const char *hi)
     return b;
 }
 
+/* What stands between the operation, which is known, and the length. */
+static void read_arguments(const struct words *w, struct request *r)
+{
+    if (w->count == WITH_BOX_AND_IMAGE) {
+        r->boxed = true;
+        r->n = read_count(w->at[1]);
+        r->x = read_box(w->at[2], w->at[3]);
+        r->k = read_box(w->at[4], w->at[5]);
+    } else if (w->count == WITH_DEPTH && strcmp(r->word, "halve") == 0) {
+        r->depth = read_number(w->at[1]);
+        r->room = read_count(w->at[2]);
+    } else if (w->count == WITH_BOX) {
+        r->boxed = true;
+        r->x = read_box(w->at[1], w->at[2]);
+    } else if (w->count == WITH_LENGTHS) {
+        r->lengths = w->at[1];
+    } else if (w->count != BARE) {
+        broken("a request has no header");
+    }
+}
+
 bool next_request(struct bytes *requests, struct request *r)
 {
     if (requests->len == 0)
         return false;
     struct words w = words_of(cut_line(requests));
-    *r = (struct request){.boxed = w.count >= WITH_BOX};
-    if (w.count == WITH_BOX_AND_IMAGE) {
-        r->n = read_count(w.at[1]);
-        r->x = read_box(w.at[2], w.at[3]);
-        r->k = read_box(w.at[4], w.at[5]);
-    } else if (w.count == WITH_BOX) {
-        r->x = read_box(w.at[1], w.at[2]);
-    } else if (w.count == WITH_LENGTHS) {
-        r->lengths = w.at[1];
-    } else if (w.count != BARE) {
-        broken("a request has no header");
-    }
+    *r = (struct request){.lengths = NULL};
     read_word(w.at[0], r->word, sizeof r->word);
+    read_arguments(&w, r);
     r->text = cut(requests, read_count(w.at[w.count - 1]));
     return true;
 }

@@ -14,14 +14,16 @@ struct bytes {
     size_t len;
 };
 
-/* `OP LENGTH`, `parts L1,L2,.. LENGTH`, `image LO HI LENGTH` or `decide N LO HI KLO KHI LENGTH`. What a line does not
- * name is zero, and so is a place that a list leaves out. */
+/* `OP LENGTH`, `parts L1,L2,.. LENGTH`, `image LO HI LENGTH`, `decide N LO HI KLO KHI LENGTH` or
+ * `halve DEPTH ROOM LENGTH`. What a line does not name is zero, and so is a place that a list leaves out. */
 struct request {
     char word[8];
     const char *lengths; /* L1,L2,.. and what follows in the line */
     bool boxed;          /* LO and HI are there */
     size_t n;            /* SIZE_MAX where the line's number is greater */
     floodrafter_box x, k;
+    int64_t depth;
+    size_t room; /* how many boxes the list can hold */
     struct bytes text;
 };
 

@@ -1,63 +1,15 @@
 #include "steps.h"
 
-#include <inttypes.h>
-#include <stdio.h>
 #include <stdlib.h>
 #include <string.h>
 
-/* Enough for every answer: words, and two lists of FLOODRAFTER_N numbers. */
-enum { PRINTED = 256 };
-
-struct printed {
-    char text[PRINTED];
-    size_t len;
-};
-
-static void print_word(struct printed *p, const char *key, const char *word)
-{
-    p->len += (size_t)snprintf(p->text + p->len, PRINTED - p->len, "%s=%s\n", key, word);
-}
-
-static void print_count(struct printed *p, const char *key, size_t count)
-{
-    p->len += (size_t)snprintf(p->text + p->len, PRINTED - p->len, "%s=%zu\n", key, count);
-}
-
-static void print_list(struct printed *p, const char *key, const int64_t *ends, size_t n)
-{
-    p->len += (size_t)snprintf(p->text + p->len, PRINTED - p->len, "%s=", key);
-    for (size_t i = 0; i < n && i < FLOODRAFTER_N; i++)
-        p->len += (size_t)snprintf(p->text + p->len, PRINTED - p->len, "%" PRId64 "%c", ends[i], i + 1 < n ? ',' : '\n');
-}
+#include "printed.h"
 
 static const char *verdict_word(uint64_t verdict)
 {
     static const char *const words[] = {
         [FLOODRAFTER_NONE] = "none", [FLOODRAFTER_UNIQUE] = "unique", [FLOODRAFTER_STALLED] = "stalled", [FLOODRAFTER_NEXT] = "next"};
     return verdict <= FLOODRAFTER_NEXT ? words[verdict] : "?";
-}
-
-static bool begins(struct bytes text, const char *with, size_t len)
-{
-    return text.len >= len && memcmp(text.at, with, len) == 0;
-}
-
-/* A text from the line with that key on. */
-static struct bytes from_line(struct bytes text, const char *key)
-{
-    while (text.len > 0 && !begins(text, key, strlen(key))) {
-        const uint8_t *end = memchr(text.at, '\n', text.len);
-        size_t line = end == NULL ? text.len : (size_t)(end + 1 - text.at);
-        text = (struct bytes){text.at + line, text.len - line};
-    }
-    return text;
-}
-
-/* "places past n .. a reader and every result leave them zero"; beside a fault n is 0. */
-static void expect_zero_past(const struct asked *r, size_t n, floodrafter_box b)
-{
-    for (size_t i = n; i < FLOODRAFTER_N; i++)
-        expect(b.lo[i] == 0 && b.hi[i] == 0, r, "a place past n, or beside a fault, is not zero");
 }
 
 static void expect_shown(const struct asked *r, floodrafter_shown s)

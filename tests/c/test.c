@@ -1,5 +1,6 @@
 /* The C library on every request of the program's cases: test REQUESTS ANSWERS. Each answer is held to the one of the second program, and each lent
  * buffer to what the header says of it. */
+#include "lists.h"
 #include "parts.h"
 #include "states.h"
 #include "steps.h"
@@ -101,6 +102,9 @@ static void ask_by_word(const struct asked *r)
         ask_image(r);
     } else if (strcmp(word, "decide") == 0) {
         ask_decide(r);
+    } else if (strcmp(word, "halve") == 0) {
+        ask_start(r);
+        ask_halve(r);
     } else {
         expect(false, r, "no such request");
     }
@@ -117,6 +121,7 @@ static void expect_limits(void)
     floodrafter_answer pinned = floodrafter_check_job((const uint8_t *)last, strlen(last));
     expect(pinned.fault == FLOODRAFTER_PIN && pinned.line == 4, &limit, "a pin line for the last coordinate is taken");
     expect_step_limits(&limit);
+    expect_list_limits(&limit);
     expect_states(&limit);
 }
 

@@ -9,8 +9,8 @@ from calls import (EXAMPLES, IMAGE, JOB, MAX_HEADER, MAX_TEXT, RESULT, call, pac
 SOLVE = request("solve", JOB)
 SOLVED = packet(RESULT)
 FAULT_1 = packet(b"fault=1\nline=0\n")
-BAD_LINE = (b"error=expected a line of solve, job, result, parts L1,L2,.., image, image LO HI or "
-            b"decide N LO HI KLO KHI, and a length in digits (decide: 0), one space between words\n")
+BAD_LINE = (b"error=expected a line of solve, job, result, parts L1,L2,.., image, image LO HI, decide N LO HI KLO KHI "
+            b"or halve DEPTH ROOM, and a length in digits (decide: 0), one space between words\n")
 BAD_TEXT = b"error=expected as many bytes of text as the length says\n"
 
 TWO = (EXAMPLES / "hinge-near.txt").read_bytes()             # a job of two unknowns

@@ -86,16 +86,17 @@ class Commands(unittest.TestCase):
     def test_help(self):
         page = call("help")
         self.assertEqual((page.status, page.err), (0, ""))
-        for command in (b"solve", b"show", b"image", b"step", b"job", b"result", b"batch", b"help", b"version"):
+        for command in (b"solve", b"show", b"image", b"step", b"halve DEPTH", b"job", b"result", b"batch", b"help",
+                        b"version"):
             self.assertIn(b"floodrafter " + command, page.out)
         self.assertIn(b"Exit status: 0 answered; 1 a fault; 2 not run", page.out)
-        for words in (("--help",), ("-h",), ("help", "solve"), ("help", "help")):
+        for words in (("--help",), ("-h",), ("help", "solve"), ("help", "halve"), ("help", "help")):
             self.assertEqual(call(*words), page)
 
     def test_help_on_batch(self):
         page = call("help", "batch")
         self.assertEqual((page.status, page.err), (0, ""))
-        for fact in (b"LENGTH", b"image LO HI", b"decide N LO HI KLO KHI", b"4096", b"error="):
+        for fact in (b"LENGTH", b"image LO HI", b"decide N LO HI KLO KHI", b"halve DEPTH ROOM", b"4096", b"error="):
             self.assertIn(fact, page.out)
 
 

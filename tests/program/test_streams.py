@@ -11,7 +11,7 @@ import unittest
 from calls import EXAMPLES, JOB, MAX_TEXT, RESULT, WAIT, call, call_by_shell, packet, pipe_not_waiting, request, start
 
 JOB_FILE = str(EXAMPLES / "job41.txt")
-READERS = ("solve", "show", "image", "step", "job", "result", "batch")
+READERS = ("solve", "show", "image", "step", "halve 2", "job", "result", "batch")
 
 
 class Reading(unittest.TestCase):
@@ -20,7 +20,7 @@ class Reading(unittest.TestCase):
     def refuses(self, file, why):
         """By every command that reads a FILE."""
         for command in READERS:
-            self.assertEqual(call(command, file), (2, b"", f"floodrafter: {file}: {why}\n"))
+            self.assertEqual(call(*command.split(), file), (2, b"", f"floodrafter: {file}: {why}\n"))
 
     def test_missing(self):
         self.refuses("no/such/file", "No such file or directory")
@@ -42,7 +42,7 @@ class Reading(unittest.TestCase):
 
     def test_closed(self):
         for command in READERS:
-            for words in ((command,), (command, "-")):
+            for words in (command.split(), [*command.split(), "-"]):
                 self.assertEqual(call_by_shell("<&-", *words),
                                  (2, b"", "floodrafter: standard input: Bad file descriptor\n"))
 
@@ -93,7 +93,8 @@ class Writing(unittest.TestCase):
     def refuses(self, redirection, why):
         """By every command that writes."""
         for words in (("solve", JOB_FILE), ("show", JOB_FILE), ("image", JOB_FILE), ("step", JOB_FILE),
-                      ("job", JOB_FILE), ("result", JOB_FILE), ("batch",), ("help",), ("help", "batch"), ("version",)):
+                      ("halve", "2", JOB_FILE), ("job", JOB_FILE), ("result", JOB_FILE), ("batch",), ("help",),
+                      ("help", "batch"), ("version",)):
             ended = call_by_shell(redirection, *words, given=request("solve", JOB))
             self.assertEqual(ended, (2, b"", f"floodrafter: standard output: {why}\n"))
 

@@ -1,7 +1,8 @@
-"""What is answered to a request: to its words, as `solve`, `parts 3,0,5` or
-`image 0,0 9,9`, and its text."""
+"""What is answered to a request: to its words, as `solve`, `parts 3,0,5`, `image 0,0 9,9`
+or `halve 3 8`, and its text."""
 
 from arithmetic import MAX_N, ends_of
+from halving import halve, listing_text
 from parts import cut, read_parts
 from steps import decision, decision_text, image_of, image_text
 from texts import job_text, read_job, read_result, result_text, solve
@@ -30,6 +31,8 @@ def reply(operation, words, text):
         return result_text(solve(job))
     if operation == "job":
         return job_text(job)
+    if operation == "halve":
+        return listing_text(job.job, halve(job, *map(int, words)))
     lo, hi = map(places, words) if words else (job.lo, job.hi)
     K = image_of(job, lo, hi)
     if operation == "image":
@@ -39,8 +42,8 @@ def reply(operation, words, text):
 
 def answer(request, text):
     """What the product answers: the result text (solve), the same text again (job,
-    result, parts), the image (image), what is decided (decide), both (step), or the two
-    lines `fault=N` and `line=L`."""
+    result, parts), the image (image), what is decided (decide), both (step), the listed
+    boxes (halve), or the two lines `fault=N` and `line=L`."""
     operation, *words = request.split(" ")
     try:
         return reply(operation, words, text)

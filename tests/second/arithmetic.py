@@ -21,6 +21,8 @@ MAX_TERMS = 16                  # "A polynomial equation has 0 to 16 terms"
 MAX_DEGREE = 3                  # "each of total degree 0 to 3"
 MAX_TEXT = 2_048                # "Text: at most 2,048 bytes"
 MAX_IMAGE = 2 ** 46             # document 02, P7: "from -2^46 to 2^46"
+MAX_DEPTH = 8                   # document 02, P8: "Depth is 0 to 8"
+MAX_BOXES = 2 ** MAX_DEPTH      # "two to the power of the depth"
 
 KINDS = ("poly", "linear", "eigen")
 VERDICTS = ("none", "unique", "stalled", "spent")

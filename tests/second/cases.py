@@ -11,6 +11,7 @@ from arithmetic import (Job, KINDS, MARK, MAX_END, MAX_ENTRY, MAX_N, MAX_TERMS, 
                         VERDICTS, ends_of)
 from damage import at_limits, damaged, every_spelling, lines_of
 from dice import Dice
+from halve_cases import fixed_halvings, random_halving
 from jobs import (allowance, job_number, largest_job, monomials, random_job,
                   symmetric_job, zero_job)
 from part_cases import fixed_parts, random_part
@@ -77,6 +78,10 @@ def fixed():
     yield from fixed_steps()
     yield from fixed_pins()
     yield from fixed_parts()
+    for job in EXAMPLES + [largest_job(kind) for kind in KINDS]:
+        for words in ("halve 0 1", "halve 3 8"):
+            yield words, job_text(job)
+    yield from fixed_halvings()
 
 
 def random_result(dice):
@@ -129,17 +134,19 @@ def random_cases(seed):
             yield random_case(dice)
 
 
+def put_among(others, every, place, maker, dice):
+    """The others, as they are, with one that the maker makes in that place of every so many."""
+    for number in itertools.count():
+        yield maker(dice) if number % every == place else next(others)
+
+
 def cases(seed, count):
-    """count requests, the fixed ones first.  Of the others each tenth is one of P1's; the
-    rest are as they would be without them."""
-    part, rest = Dice(seed + 2 ** 34), random_cases(seed)
-    made = 0
-    for case in fixed():
-        if made < count:
-            yield case
-            made += 1
-    for number in range(count - made):
-        yield random_part(part) if number % 10 == 2 else next(rest)
+    """count requests, the fixed ones first.  Of the others each twentieth is one of P8's,
+    and of those that are left each tenth one of P1's; the rest are as they would be without
+    them."""
+    others = put_among(random_cases(seed), 10, 2, random_part, Dice(seed + 2 ** 34))
+    others = put_among(others, 20, 16, random_halving, Dice(seed + 2 ** 35))
+    yield from itertools.islice(itertools.chain(fixed(), others), count)
 
 
 def write_case(request, text, requests, answers):

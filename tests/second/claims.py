@@ -1,5 +1,5 @@
-"""What must hold of every accepted job, tried on random fraction points, and of every
-text that arrives in parts.
+"""What must hold of every accepted job, tried on random fraction points, of every text
+that arrives in parts, and of every list of a job that is halved.
 
     claims.py [--seed S] [--count K]
 
@@ -26,6 +26,9 @@ text that arrives in parts.
 - Parts (document 02, P1): the answer at the end of all parts of a job text, right or
   damaged, is that of the whole text read at once; before the end there is none, and no
   more is held than the line that has not ended and a count, at most one over the limit.
+- Halving (document 02, P8): every zero of the starting box lies in a listed box, each box
+  listed as unique holds at most one, all lie in the starting box, and there are at most two
+  to the power of the depth.
 """
 
 import argparse
@@ -34,7 +37,9 @@ from fractions import Fraction
 
 import arithmetic
 from arithmetic import MARK, MAX_END, MAX_IMAGE, MAX_TEXT, ends_of
+from breach import Breach, claim, inside
 from dice import Dice
+from halve_claims import try_halvings
 from jobs import pinned_job, random_job, symmetric_job
 from part_cases import random_lengths, random_text
 from parts import Reader, cut
@@ -43,21 +48,6 @@ from steps import decision, image_of
 from texts import read_job, job_text
 from walks import Fault
 from zeros import job_with_zeros
-
-
-class Breach(Exception):
-    """A claim that does not hold, with the job that shows it."""
-
-
-def claim(holds, name, job, *shown):
-    """Fails loudly unless the claim holds."""
-    if not holds:
-        raise Breach(f"{name} does not hold: {shown}\n{job_text(job).decode()}")
-
-
-def inside(point, box):
-    """Whether a point lies in a box, edges included."""
-    return all(a <= v <= b for v, (a, b) in zip(point, box))
 
 
 def values_at(equations, p):
@@ -274,7 +264,8 @@ def main():
     parser.add_argument("--seed", type=int, default=1)
     parser.add_argument("--count", type=int, default=1_000)
     given = parser.parse_args()
-    for name, times in sorted(try_claims(given.seed, given.count).items()):
+    tried = try_claims(given.seed, given.count) + try_halvings(given.seed, given.count)
+    for name, times in sorted(tried.items()):
         print(f"{times:7} {name}")
     print("no breach")
 

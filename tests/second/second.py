@@ -5,6 +5,8 @@
     second.py result [FILE]    reads a result text and writes it again
     second.py image [FILE]     the image of a job's own box
     second.py step [FILE]      the image, and what is decided of it
+    second.py halve DEPTH [FILE]
+                               all closing positions of a job: the boxes that are listed
     second.py batch [FILE]     many requests in one run
     second.py cases --seed S --count K --requests R --answers A
 
@@ -17,7 +19,7 @@ import re
 import sys
 
 from answers import HEADER, answer
-from arithmetic import MAX_N, MAX_TEXT
+from arithmetic import MAX_BOXES, MAX_N, MAX_TEXT
 from cases import write_cases
 
 COMMANDS = ("solve", "job", "result", "image", "step")
@@ -25,17 +27,19 @@ CHUNK = 65_536
 
 # A number in a request: an optional minus, 1 to 18 digits, no leading zero, no minus
 # zero.  A list has 1 to 4 of them, whatever n is.  N, LENGTH and the lengths of parts have
-# any count of digits.
+# any count of digits; ROOM is at most as many boxes as are ever listed.
 NUMBER = "(?:0|-?[1-9][0-9]{0,17})"
 LIST = f"{NUMBER}(?:,{NUMBER}){{0,{MAX_N - 1}}}"
 COUNT = "(?:0|[1-9][0-9]*)"
 PARTS = f"parts {COUNT}(?:,{COUNT})*"
-LINE = re.compile(f"(?:(?:solve|job|result|{PARTS}|image(?: {LIST} {LIST})?) {COUNT}"
+ROOM = "(?:" + "|".join(map(str, range(MAX_BOXES + 1))) + ")"
+HALVE = f"halve {NUMBER} {ROOM}"
+LINE = re.compile(f"(?:(?:solve|job|result|{PARTS}|image(?: {LIST} {LIST})?|{HALVE}) {COUNT}"
                   f"|decide {COUNT}(?: {LIST}){{4}} 0)\n")
 
-EXPECTED_LINE = ("a line of solve, job, result, parts L1,L2,.., image, image LO HI or "
-                 "decide N LO HI KLO KHI, and a length in digits (decide: 0), "
-                 "one space between words")
+EXPECTED_LINE = ("a line of solve, job, result, parts L1,L2,.., image, image LO HI, "
+                 "decide N LO HI KLO KHI or halve DEPTH ROOM, and a length in digits "
+                 "(decide: 0), one space between words")
 EXPECTED_TEXT = "as many bytes of text as the length says"
 
 
@@ -72,12 +76,22 @@ def batch(source, sink):
         sink.write(b"%d\n" % len(reply) + reply)
 
 
+def depth(spelled):
+    """DEPTH of the command line, spelled as in a request."""
+    if not re.fullmatch(NUMBER, spelled):
+        raise argparse.ArgumentTypeError(f"no number: {spelled!r}")
+    return spelled
+
+
 def main(arguments=None):
     """The command line."""
     parser = argparse.ArgumentParser(description=__doc__.split("\n", maxsplit=1)[0])
     commands = parser.add_subparsers(dest="command", required=True)
-    for name in (*COMMANDS, "batch"):
-        commands.add_parser(name).add_argument("file", nargs="?", metavar="FILE")
+    for name in (*COMMANDS, "halve", "batch"):
+        command = commands.add_parser(name)
+        if name == "halve":
+            command.add_argument("depth", type=depth, metavar="DEPTH")
+        command.add_argument("file", nargs="?", metavar="FILE")
     making = commands.add_parser("cases")
     making.add_argument("--seed", type=int, required=True)
     making.add_argument("--count", type=int, required=True)
@@ -98,8 +112,9 @@ def main(arguments=None):
         if given.command == "batch":
             batch(source, sys.stdout.buffer)
         else:
-            text = source.read(MAX_TEXT + 1)
-            sys.stdout.buffer.write(answer(given.command, text))
+            halving = given.command == "halve"
+            request = f"halve {given.depth} {MAX_BOXES}" if halving else given.command
+            sys.stdout.buffer.write(answer(request, source.read(MAX_TEXT + 1)))
 
 
 if __name__ == "__main__":

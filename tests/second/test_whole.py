@@ -222,7 +222,7 @@ def caught_by_claims():
     return False
 
 
-ASKED = list(cases(1, 2_000))
+ASKED = list(cases(1, 2_350))
 ANSWERED = [answer(*case) for case in ASKED]
 
 

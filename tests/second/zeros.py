@@ -8,8 +8,8 @@ from fractions import Fraction
 from itertools import product as every
 
 from arithmetic import (Job, MARK, MAX_END, MAX_ENTRY, MAX_N, MAX_TERMS, ends_of,
-                        equations_of, unit)
-from jobs import allowance, choose_inverse, clip, interval, job_number
+                        equations_of, slope, unit)
+from jobs import allowance, choose_inverse, clip, interval, inverse_in_marks, job_number
 
 
 def times(one, other):
@@ -122,23 +122,81 @@ def system_with_zeros(dice, kind, n, pin):
     return dice.pick([eigen_with_zero, triangular_with_zeros])(dice, n, pin)
 
 
+def in_marks(zeros):
+    """Zeros in units as zeros in marks."""
+    return [[MARK * v for v in zero] for zero in zeros]
+
+
+def edge_round(dice, ends, radius):
+    """An edge of a box that holds these fractions, and up to radius more on either side."""
+    low, high = min(ends).__floor__(), max(ends).__ceil__()
+    return (clip(low - dice.below(radius), MAX_END), clip(high + dice.below(radius), MAX_END))
+
+
 def job_with_zeros(dice):
     """An accepted job and its known zeros, in marks."""
     kind = dice.pick(["poly", "poly", "linear", "eigen", "eigen"])
     n = dice.between(1, MAX_N)
     pin = dice.between(1, n) if kind == "eigen" else 0
     lines, zeros = system_with_zeros(dice, kind, n, pin)
-    zeros = [[MARK * v for v in zero] for zero in zeros]
+    zeros = in_marks(zeros)
     radius = dice.pick([2, 9, 100, 900, 4_000, 9_000, 30_000])
     placing = dice.pick(["mid", "in", "in", "low", "high", "both"])
     aim, box = dice.pick(zeros), []
     for j in range(n):
         if placing == "both":
-            ends = [zero[j] for zero in zeros]
-            low, high = min(ends).__floor__(), max(ends).__ceil__()
-            box.append((clip(low - dice.below(radius), MAX_END),
-                        clip(high + dice.below(radius), MAX_END)))
+            box.append(edge_round(dice, [zero[j] for zero in zeros], radius))
         else:
             box.append(interval(dice, placing, aim[j].__floor__(), radius))
     job = Job(job_number(dice), kind, n, *ends_of(box), [], allowance(dice), lines, pin)
     return job._replace(inv=choose_inverse(dice, equations_of(job), box)), zeros
+
+
+# Several zeros in one box, for document 02, P8.
+
+def hinge_with_zeros(dice):
+    """A hinge with the knees (u/d, v/d) and (u/d, -v/d), its unknowns in either order, in
+    equations that one inverse may serve at both: the squared distance of the knee from
+    (0, 0) is as there, and so is that from (u/d, 0), times the unknown that is v/d."""
+    d = dice.pick([1, 2, 3, 4, 7, 12])
+    u, v = dice.pick([1, -1]) * dice.between(1, 3 * d), dice.between(1, 3 * d)
+    across, along = dice.shuffled(2)
+    squares = {unit(2, along, along): d * d, unit(2, across, across): d * d}
+    first = plus(squares, {unit(2): -u * u - v * v})
+    other = plus(squares, {unit(2, along): -2 * u * d, unit(2): u * u - v * v})
+    lines = []
+    for found in (first, times({unit(2, across): 1}, other)):
+        scale = dice.between(MARK // 8, 2 * MARK) // (d * d)
+        lines.append([(c * scale, e) for e, c in sorted(found.items(), reverse=True) if c])
+    if along == 1:                                    # the equation of its own unknown
+        lines.reverse()
+    zeros = [[Fraction(u, d)] * 2, [Fraction(u, d)] * 2]
+    zeros[0][across], zeros[1][across] = Fraction(v, d), Fraction(-v, d)
+    return lines, zeros
+
+
+def mean_inverse(equations, zeros):
+    """The inverse of the mean of the slopes at some zeros; None where singular."""
+    n = len(equations)
+    points = [[(v.__floor__(),) * 2 for v in zero] for zero in zeros]
+    return inverse_in_marks([[sum(slope(equation, j, point)[0] for point in points) // len(points)
+                              for j in range(n)] for equation in equations])
+
+
+def job_with_several(dice):
+    """An accepted job and its known zeros, in marks, two of them or more; its box is placed
+    round them all, and its inverse, mostly, is made for one of them or for all."""
+    kind, n, pin, zeros = "poly", 2, 0, []
+    if dice.one_in(3):
+        lines, zeros = hinge_with_zeros(dice)
+    while len(zeros) < 2:
+        kind, n = dice.pick(["poly", "eigen"]), dice.between(1, MAX_N)
+        pin = dice.between(1, n) if kind == "eigen" else 0
+        lines, zeros = system_with_zeros(dice, kind, n, pin)
+    zeros = in_marks(zeros)
+    radius = dice.pick([2, 9, 900, 9_000, 30_000])
+    box = [edge_round(dice, [zero[j] for zero in zeros], radius) for j in range(n)]
+    job = Job(job_number(dice), kind, n, *ends_of(box), [], allowance(dice), lines, pin)
+    equations, aims = equations_of(job), dice.pick([zeros, [dice.pick(zeros)]])
+    made = not dice.one_in(4) and mean_inverse(equations, aims)
+    return job._replace(inv=made or choose_inverse(dice, equations, box)), zeros

@@ -6,11 +6,9 @@ use Prim.Native.Nat.{ℕ, _≤_}
 use native.Mathlib.Omega.{arith}
 use borrow.Author.Tests.{ltb-false}
 use lib.Dec.{ltb}
-use lib.IntN.{ℤ}
 use Rattle.sizes.specs.Sizes.{boxesMax}
 use Rattle.digits.specs.declared.Number.{Number}
 use Rattle.arguments.specs.declared.counts.Counted.{Counted}
-use Rattle.arguments.specs.declared.depths.Deep.{Deep}
 use Rattle.arguments.specs.Depths.{notDeep, deepFrom, deepBy}
 
 from-few : (depth : Number) (room : Counted) → deepFrom depth room .room ≤ boxesMax

@@ -1,5 +1,4 @@
 -- The width of an edge in range fits its type.
-use lib.IntN.{ℤ}
 use Rattle.sizes.specs.Sizes.{endMax}
 use Rattle.integers.proofs.Ranges.{sub-fits}
 use Rattle.intervals.specs.Ranges.{InI}

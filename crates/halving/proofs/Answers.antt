@@ -15,7 +15,7 @@ use Rattle.checks.specs.Checks.{checkJob}
 use Rattle.step.specs.Values.{startOf}
 use Rattle.halving.specs.Boxes.{Listed, boxesOf}
 use Rattle.halving.specs.Lists.{listedPlaces, numbersOf, Lists}
-use Rattle.halving.specs.Halving.{depthStatus, roomStatus, halveStatus, Halves}
+use Rattle.halving.specs.Halving.{depthStatus, halveStatus, Halves}
 use Rattle.halving.proofs.Parts.{boxes-few}
 use Rattle.halving.proofs.Lists.{numbers-length}
 use Rattle.halving.proofs.Refusals.{room-holds}

@@ -1,5 +1,5 @@
 -- Boxes listed one after the other.
-use Prim.Native.Nat.{ℕ, zero, suc, _+_, _-_, _*_, _^_, _≤_, _<_}
+use Prim.Native.Nat.{ℕ, zero, suc, _+_, _-_, _*_, _^_, _≤_}
 use native.Mathlib.Nat.{add-zero, pow-suc}
 use native.Mathlib.Numerals.{sub-one}
 use native.Mathlib.Omega.{arith}
@@ -9,7 +9,7 @@ use mathlib.Core.List.{List, [], _∷_, _++_, append-assoc, append-nil}
 use lib.IntN.{ℤ, pos}
 use lib.ListN.{length, set, length-append}
 use lib.Pow.{pow-pos}
-use lib.Seq.{sets, length-sets}
+use lib.Seq.{length-sets}
 use Rattle.sizes.specs.Sizes.{nMax}
 use Rattle.lists.proofs.Sets.{sets-append}
 use Rattle.lists.proofs.Tab.{length-tab}
@@ -54,7 +54,8 @@ module _ (n : ℕ) where
       → Lists n x y at r a → Lists n y z r s b → Lists n x z at s c
   lists-append {x} {y} {z} {at} {r} {s} {a} {b} e p q = rw e (record {
     next = rw (length-append) (omega (arith, p .next, q .next));
-    list = q .list ∙ rw (p .list, place) (sym (rw (numbers-append a b) (sets-append x (listedPlaces * at) (numbersOf n a) (numbersOf n b))));
+    list = q .list ∙ rw (p .list, place)
+        (sym (rw (numbers-append a b) (sets-append x (listedPlaces * at) (numbersOf n a) (numbersOf n b))));
   })
     where
       place : listedPlaces * r ≡ listedPlaces * at + length (numbersOf n a)

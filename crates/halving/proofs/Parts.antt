@@ -1,4 +1,4 @@
--- What the code asks of a box that was run says which boxes are listed; there are at most two to the power of the depth.
+-- What the code asks of a box that was run says which boxes are listed. They are at most two to the power of the depth.
 use Prim.Native.Nat.{ℕ, zero, suc, _-_, _^_, _≤_}
 use native.Mathlib.Nat.{pow-suc}
 use native.Mathlib.Numerals.{sub-one}
@@ -51,7 +51,8 @@ module _ (n : ℕ) (x : List Interval) where
     open-taken zero e = refl
     open-taken (suc depth) e = by (isWide n x) (rw eqb·suc-zero at e)
       where
-        by : (b : Bool) → cond b Part.Cut Part.Open ≡ Part.Open → cond b (both depth) (listedAs false x) ≡ listedAs false x
+        by : (b : Bool) → cond b Part.Cut Part.Open ≡ Part.Open
+            → cond b (both depth) (listedAs false x) ≡ listedAs false x
         by true e = absurd (zero-one (cc))
         by false e = refl
 
@@ -108,7 +109,8 @@ module _ (j : Job) (x : List Interval) where
   n = j .head .n
 
   -- the box that the run returns is dropped, listed or cut
-  boxes-are : (depth : ℕ) → boxesFrom j depth x ≡ listBy (o .verdict) (o .sides) (taken n (o .sides) depth (boxesFrom j))
+  boxes-are : (depth : ℕ)
+      → boxesFrom j depth x ≡ listBy (o .verdict) (o .sides) (taken n (o .sides) depth (boxesFrom j))
   unfolding boxesFrom
   boxes-are zero = refl
   boxes-are (suc depth) = refl

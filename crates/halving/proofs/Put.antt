@@ -6,7 +6,7 @@ use native.Mathlib.Numerals.{add-one}
 use mathlib.Core.Path.{_≡_, refl, sym, _∙_}
 use mathlib.Core.List.{List, [], _∷_, _++_}
 use lib.ListN.{length, getD, set, take, length-append}
-use lib.Seq.{sets, length-sets, take-suc, length-take-le}
+use lib.Seq.{length-sets, take-suc, length-take-le}
 use lib.IntN.{ℤ, pos}
 use Rattle.lists.proofs.Sets.{sets-append}
 use Rattle.halving.specs.Lists.{Put}

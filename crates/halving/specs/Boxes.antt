@@ -31,8 +31,8 @@ listBy Verdict.Unique x taken = listedAs true x
 listBy Verdict.Stalled x taken = taken
 listBy Verdict.Spent x taken = taken
 
--- "If .. its widest edge .. is at least 2 marks, cut that edge .., and do the low half first ..; else list it as open.":
--- `half` is what a half gives
+-- "If .. its widest edge .. is at least 2 marks, cut that edge .., and do the low half first ..; else list it as
+-- open.": `half` is what a half gives
 unfoldable pub cutBy : ℕ → List Interval → (List Interval → List Listed) → List Listed
 cutBy n x half = cond (isWide n x) (half (lowHalf n x) ++ half (highHalf n x)) (listedAs false x)
 

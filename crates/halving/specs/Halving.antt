@@ -13,7 +13,7 @@ use Rattle.faults.specs.declared.Status.{Status}
 use Rattle.jobs.specs.declared.Job.{Job}
 use Rattle.checks.specs.Checks.{checkJob}
 use Rattle.halving.specs.declared.Halved.{Halved}
-use Rattle.halving.specs.Boxes.{Listed, boxesOf}
+use Rattle.halving.specs.Boxes.{boxesOf}
 use Rattle.halving.specs.Lists.{listedPlaces, numbersOf}
 
 -- "Depth is 0 to 8."

@@ -1,13 +1,13 @@
 -- The answers of a listing, and that its pieces can be written and make up its text.
-use Prim.Native.Nat.{ℕ, _+_, _*_, _^_, _≤_, _<_}
+use Prim.Native.Nat.{ℕ, _+_, _<_}
 use native.Mathlib.Omega.{arith}
-use mathlib.Core.Path.{_≡_, refl, sym, ap, ap₂, _∙_}
+use mathlib.Core.Path.{_≡_, refl, sym, ap, _∙_}
 use mathlib.Core.List.{List, _++_}
 use lib.IntN.{ℤ, pos, natAbs}
 use lib.ListN.{length, take, length-append}
 use lib.Pow.{pow-mono}
 use lib.Seq.{take-all}
-use Rattle.sizes.specs.Sizes.{nMax, endMax, depthMax, boxesMax}
+use Rattle.sizes.specs.Sizes.{nMax, endMax}
 use Rattle.integers.specs.Ranges.{Within}
 use Rattle.lists.specs.Loops.{tab}
 use Rattle.lists.proofs.Tab.{length-tab, getD-tab}
@@ -22,7 +22,6 @@ use Rattle.faults.specs.declared.Status.{Status}
 use Rattle.faults.specs.Checks.{andThen}
 use Rattle.faults.proofs.Laws.{good-first}
 use Rattle.jobs.specs.declared.Job.{Job}
-use Rattle.checks.specs.Checks.{checkJob}
 use Rattle.checks.specs.Accepted.{Accepted}
 use Rattle.checks.proofs.AcceptedLaws.{check-done}
 use Rattle.slopes.specs.Ranges.{BoxIn}
@@ -30,15 +29,15 @@ use Rattle.step.specs.Values.{lowEnds, highEnds}
 use Rattle.job_form.specs.JobForm.{readJob}
 use Rattle.halving.specs.declared.Halved.{Halved}
 use Rattle.halving.specs.Boxes.{Listed, boxesOf}
-use Rattle.halving.specs.Lists.{listedPlaces, numbersOf}
+use Rattle.halving.specs.Lists.{numbersOf}
 use Rattle.halving.specs.Halving.{halveStatus, halvedBy, Halves}
 use Rattle.halving.proofs.Lists.{numbers-length}
 use Rattle.halving.proofs.Refusals.{depth-few}
 use Rattle.halving.proofs.Answers.{few-boxes, job-fine, depth-done}
 use Rattle.halving.proofs.Each.{listed-in}
 use Rattle.listing.specs.declared.Listing.{Listing}
-use Rattle.listing.specs.Lines.{EntryIn, headLines, firstLines, allLines}
-use Rattle.listing.specs.Listing.{noListing, listingBy, listingText, Readable, ListsAs, ListsJob, listStatus, ListsText}
+use Rattle.listing.specs.Lines.{EntryIn, headLines, firstLines}
+use Rattle.listing.specs.Listing.{noListing, listingText, ListsAs, ListsJob, listStatus, ListsText}
 use Rattle.listing.proofs.Entries.{boxAt, box-among, low-at, high-at, first-lines}
 
 -- ---- the ends of a box in range are short

@@ -16,7 +16,7 @@ use Rattle.step.specs.Values.{lowEnds, highEnds}
 use Rattle.halving.specs.Boxes.{Listed, Among}
 use Rattle.halving.specs.Lists.{listedPlaces, uniqueNumber, numbersIn, numbersOf}
 use Rattle.halving.proofs.Lists.{box-numbers}
-use Rattle.listing.specs.Lines.{boxLines, uniqueIn, lowIn, highIn, entryLines, firstLines}
+use Rattle.listing.specs.Lines.{uniqueIn, lowIn, highIn, entryLines, firstLines}
 use Rattle.listing.specs.Listing.{listedLines, eachLines}
 
 none : Listed

@@ -2,7 +2,7 @@
 use mathlib.Core.Path.{_≡_, refl, _∙_}
 use mathlib.Core.List.{List, [], _∷_}
 use mathlib.Core.Logic.{_↔_}
-use Prim.Native.Nat.{ℕ, _-_, _<_}
+use Prim.Native.Nat.{ℕ, _-_}
 use lib.IntN.{ℤ, pos, _-ℤ_, _*ℤ_, zero-*ℤ}
 use lib.Signed.{_<ℤ_}
 use Rattle.sizes.specs.Sizes.{degreeMax}

@@ -7,9 +7,6 @@ use mathlib.Core.List.{List}
 use lib.ListN.{length, getD}
 use lib.IntN.{pos}
 use Rattle.sizes.specs.Sizes.{nMax, textMax, stepsMax, endMax}
-use Rattle.integers.specs.Ranges.{Within}
-use Rattle.integers.proofs.Parts.{zorder}
-use Rattle.integers.proofs.Ranges.{within, within-lo, within-hi}
 use Rattle.lists.proofs.Tab.{getD-tab}
 use Rattle.intervals.specs.Places.{sideAt}
 use Rattle.checks.specs.Checks.{checkJob}
@@ -58,7 +55,8 @@ module _ (j : Job) (checked : checkJob j ≡ Status.Done) where
         few = accepted .few;
         low = within-all _ (j .head .n) endMax (λ k l. rw (low-at k l) (left-low j accepted x box a k l));
         high = within-all _ (j .head .n) endMax (λ k l. rw (high-at k l) (left-high j accepted x box a k l));
-        ordered = ordered-all _ _ (j .head .n) (λ k l. rw (low-at k l, high-at k l) (left-ordered j accepted x box a k l));
+        ordered = ordered-all _ _ (j .head .n)
+            (λ k l. rw (low-at k l, high-at k l) (left-ordered j accepted x box a k l));
       }
 
       pub from-checked : checkResult (resultOf j o) ≡ Status.Done

@@ -2,7 +2,8 @@
 ghost use mathlib.Core.Path.{_≡_};
 ghost use Prim.Native.Nat.{_≤_};
 ghost use lib.ListN.{length};
-ghost use Rattle.requests.specs.Packets.{headerMax, keptOf, passedOf, without, textOf, textAt, wordsOf, lookOf, Inside};
+ghost use Rattle.requests.specs.Packets.{headerMax, keptOf, passedOf, without, textOf, textAt, wordsOf, lookOf};
+ghost use Rattle.requests.specs.Packets.{Inside};
 use crate::Op;
 use crate::Request;
 use crate::request_of;

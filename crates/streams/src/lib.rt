@@ -1,4 +1,5 @@
-// The program's streams: reading and writing. A call that a signal broke off is made again, and what is not ready is waited for.
+// The program's streams: reading and writing. A call that a signal broke off is made again, and what is not ready is
+// waited for.
 pub mod outcomes;
 
 ghost use Prim.Native.Nat.{_≤_};

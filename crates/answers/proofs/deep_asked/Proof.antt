@@ -1,8 +1,6 @@
 -- deep_asked: what stands behind the first word.
 use borrow.Author.Needs.{needs}
-use mathlib.Core.Path.{_∙_}
 use Rattle.digits.proofs.Lists.{to-end}
-use Rattle.arguments.specs.Depths.{deepBy}
 use Rattle.arguments.proofs.Rooms.{deep-few}
 use Rattle.answers.proofs.deep_asked.Statement.{statement}
 use Rattle.answers.proofs.deep_asked.Tie as tie

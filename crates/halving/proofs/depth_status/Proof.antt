@@ -1,5 +1,4 @@
 -- depth_status: a depth below 0 is refused, and one beyond the greatest.
-use mathlib.Core.Path.{ap}
 use mir.Facts.{toZ-ofZ}
 use Rattle.halving.proofs.Refusals.{depth-negative, depth-beyond, depth-fine, depth-cast}
 use Rattle.halving.proofs.depth_status.Statement.{statement}

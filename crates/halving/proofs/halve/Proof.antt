@@ -1,5 +1,5 @@
 -- halve: what is refused touches no number.
-use mathlib.Core.Path.{_≡_, sym, _∙_}
+use mathlib.Core.Path.{sym, _∙_}
 use borrow.Author.Needs.{needs}
 use mir.Facts.{toZ-ofZ}
 use Rattle.halving.proofs.Lists.{lists-length}
@@ -29,7 +29,8 @@ returns : tie.Need-returns
 returns c =
     let status = c .before .before .before .before .before in
     let f = status .before .fits .depth in
-    let done = rw (toZ-ofZ f) at (sym (status .halve-status .ensures) ∙ c .before .before .before .enum-told .given .1) in
+    let told = c .before .before .before .enum-told .given .1 in
+    let done = rw (toZ-ofZ f) at (sym (status .halve-status .ensures) ∙ told) in
     halves-done _ _ _ done (rw (toZ-ofZ f) at (c .before .list-job .ensures))
 
 returns-2 : tie.Need-returns-2

@@ -1,10 +1,9 @@
 -- halve_status: the job's own refusal, that of the depth, that of the list.
-use mathlib.Core.Path.{_≡_, sym, ap, _∙_}
+use mathlib.Core.Path.{sym, _∙_}
 use borrow.Author.Needs.{needs}
-use lib.IntN.{natAbs}
 use mir.Facts.{toZ-ofZ}
 use Rattle.faults.proofs.Laws.{not-bad, bad-first, good-first}
-use Rattle.halving.specs.Halving.{halveStatus, roomStatus}
+use Rattle.halving.specs.Halving.{halveStatus}
 use Rattle.halving.proofs.Refusals.{depth-cast, depth-counted, depth-few}
 use Rattle.halving.proofs.halve_status.Statement.{statement}
 use Rattle.halving.proofs.halve_status.Tie as tie

@@ -1,6 +1,5 @@
 -- list_job: the job's own box is in range.
 use native.Mathlib.Nat.{zero-add}
-use borrow.Author.Needs.{needs}
 use Rattle.checks.proofs.AcceptedLaws.{check-done}
 use Rattle.step.proofs.Given.{start-in}
 use Rattle.halving.specs.Boxes.{boxesOf}

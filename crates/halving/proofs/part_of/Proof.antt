@@ -1,7 +1,7 @@
 -- part_of: a decided box needs no look at its edges.
 use borrow.Author.Needs.{needs}
-use mathlib.Core.Path.{refl, ap, _∙_}
-use Rattle.halving.specs.Parts.{partBy, partOf}
+use mathlib.Core.Path.{refl}
+use Rattle.halving.specs.Parts.{partOf}
 use Rattle.halving.proofs.part_of.Statement.{statement}
 use Rattle.halving.proofs.part_of.Tie as tie
 
@@ -22,4 +22,7 @@ unfolding partOf
 returns-4 c = rw (c .before .enum-told4 .given .1) (c .undecided2 .ensures)
 
 pub part-of-spec : {M : Type 1} → statement M
-part-of-spec = tie.close (tie.spec (λ c. search needs) (λ c. search needs) (λ c. search needs) (λ c κs. search needs) (λ c. search needs) (λ c κs. search needs) returns returns-2 returns-3 returns-4)
+part-of-spec =
+    tie.close
+    (tie.spec (λ c. search needs) (λ c. search needs) (λ c. search needs) (λ c κs. search needs) (λ c. search needs)
+    (λ c κs. search needs) returns returns-2 returns-3 returns-4)

@@ -1,6 +1,6 @@
 -- ran: the box that the run returns is in range.
 use borrow.Author.Needs.{needs}
-use mathlib.Core.Path.{_≡_, ap, ap₂, _∙_}
+use mathlib.Core.Path.{ap, ap₂, _∙_}
 use mathlib.Core.List.{List}
 use Rattle.intervals.specs.declared.Interval.{Interval}
 use Rattle.run.specs.declared.Outcome.{Outcome}
@@ -27,7 +27,8 @@ returns c =
     let o = c .before .before .run-from .ensures in
     let s = c .before .before .before in
     ap₂ returned
-    (c .part-of .ensures ∙ ap (λ (o : Outcome). partOf (o .verdict) (s .args .j .head .n) (o .sides) (s .args .depth)) o)
+    (c .part-of .ensures
+    ∙ ap (λ (o : Outcome). partOf (o .verdict) (s .args .j .head .n) (o .sides) (s .args .depth)) o)
     (ap (λ (o : Outcome). o .sides) o)
 
 pub ran-spec : {M : Type 1} → statement M

@@ -50,7 +50,8 @@ loop-again c =
 
 same-length : tie.Need-same-length Inv-loop μ-loop
 same-length c =
-    wrote-length (wrote-append (c .before .before .before .before .put-head .ensures .wrote) (c .before .loop .inv .wrote))
+    let head = c .before .before .before .before .put-head .ensures .wrote in
+    wrote-length (wrote-append head (c .before .loop .inv .wrote))
 
 returns : tie.Need-returns Inv-loop μ-loop
 unfolding allLines

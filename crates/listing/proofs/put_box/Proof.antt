@@ -73,5 +73,5 @@ pub put-box-spec : {M : Type 1} → statement M
 put-box-spec =
     tie.close
     (tie.spec (λ c. search needs) (λ c. search needs) (λ c. search needs) (λ c. search needs) (λ c. search needs)
-    (λ c κs. search needs) (λ c κs. search needs) (λ c. search needs) put-ends-requires (λ c. search needs) put-ends-requires-2
-    (λ c. search needs) returns)
+    (λ c κs. search needs) (λ c κs. search needs) (λ c. search needs) put-ends-requires (λ c. search needs)
+    put-ends-requires-2 (λ c. search needs) returns)

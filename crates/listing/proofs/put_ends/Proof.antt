@@ -13,7 +13,8 @@ put-list-line-requires c κs =
     let s = c .before .before .before .before in
     let a = s .args in
     let e : (a .from + a .n) - a .from ≡ a .n = omega arith in
-    rw e (omega arith, omega (arith, s .pre .room, taken-few (a .n) (drop (a .from) (a .list .now)) (s .pre .few)), s .pre .small)
+    let few = taken-few (a .n) (drop (a .from) (a .list .now)) (s .pre .few) in
+    rw e (omega arith, omega (arith, s .pre .room, few), s .pre .small)
 
 returns : tie.Need-returns
 returns c =

@@ -1,6 +1,6 @@
 -- `batch::lists::add_boxes` meets its contract, and ends: the boxes that are left fall.
 use Prim.Native.Nat.{_-_, _≤_}
-use mathlib.Core.Path.{_≡_, _∙_}
+use mathlib.Core.Path.{_≡_}
 use borrow.Author.Needs.{needs}
 use native.Mathlib.Omega.{arith}
 use lib.ListN.{length}

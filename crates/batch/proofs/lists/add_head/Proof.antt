@@ -1,5 +1,4 @@
 -- `batch::lists::add_head` meets its contract: a line and a piece fit behind a block.
-use Prim.Native.Nat.{_+_, _≤_}
 use borrow.Author.Needs.{needs}
 use native.Mathlib.Omega.{arith}
 use mathlib.Core.List.{[]}

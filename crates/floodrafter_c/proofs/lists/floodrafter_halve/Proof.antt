@@ -14,7 +14,10 @@ returns-2 : tie.Need-returns-2
 returns-2 c =
     let l = c .before .before .before .before .before in
     let is = rw (toZ-ofZ (l .before .before .before .fits .depth)) at (l .list-text .ensures) in
-    record { answer = rw (← is .answer, c .before .before .status .given .1, c .fault-number .ensures); list = is .list }
+    record {
+      answer = rw (← is .answer, c .before .before .status .given .1, c .fault-number .ensures);
+      list = is .list;
+    }
 
 pub floodrafter-halve-spec : {M : Type 1} → statement M
 floodrafter-halve-spec =
