@@ -2,6 +2,8 @@
 
 import os
 import subprocess
+import threading
+import time
 from collections import namedtuple
 from pathlib import Path
 
@@ -58,3 +60,17 @@ def request(words, text=b""):
 def packet(text):
     """An answer of batch."""
     return b"%d\n" % len(text) + text
+
+
+def answered_not_waiting(given):
+    """What batch answers into a pipe that does not wait and is read late, and its exit status."""
+    reading, writing = pipe_not_waiting(1)
+    run = start("batch", stdout=writing)
+    os.close(writing)
+    feeding = threading.Thread(target=run.communicate, args=(given,))
+    feeding.start()
+    time.sleep(0.2)
+    with open(reading, "rb") as answers:
+        read = answers.read()
+    feeding.join()
+    return read, run.returncode

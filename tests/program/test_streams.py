@@ -4,11 +4,11 @@ import os
 import socket
 import subprocess
 import tempfile
-import threading
 import time
 import unittest
 
-from calls import EXAMPLES, JOB, MAX_TEXT, RESULT, WAIT, call, call_by_shell, packet, pipe_not_waiting, request, start
+from calls import EXAMPLES, JOB, MAX_TEXT, RESULT, WAIT
+from calls import answered_not_waiting, call, call_by_shell, packet, pipe_not_waiting, request, start
 
 JOB_FILE = str(EXAMPLES / "job41.txt")
 READERS = ("solve", "show", "image", "step", "halve 2", "job", "result", "batch")
@@ -126,13 +126,4 @@ class Writing(unittest.TestCase):
         run.stderr.close()
 
     def test_not_waiting(self):
-        reading, writing = pipe_not_waiting(1)
-        run = start("batch", stdout=writing)
-        os.close(writing)
-        feeding = threading.Thread(target=run.communicate, args=(request("solve", JOB) * 5_000,))
-        feeding.start()
-        time.sleep(0.2)
-        with open(reading, "rb") as answers:
-            self.assertEqual(answers.read(), packet(RESULT) * 5_000)
-        feeding.join()
-        self.assertEqual(run.returncode, 0)
+        self.assertEqual(answered_not_waiting(request("solve", JOB) * 5_000), (packet(RESULT) * 5_000, 0))
