@@ -31,7 +31,7 @@ static void print_box(size_t number, const int64_t *box, size_t n)
 }
 
 /* A text without a fault has no sentence: then it is the depth that was refused. */
-static void tell_fault(const uint8_t *text, size_t len, floodrafter_listing l)
+static void tell_fault(const uint8_t *text, size_t len, long depth, floodrafter_listing l)
 {
     uint8_t sentence[FLOODRAFTER_SENTENCE_MAX];
     size_t told = floodrafter_explain_job(text, len, sentence, sizeof sentence);
@@ -39,7 +39,7 @@ static void tell_fault(const uint8_t *text, size_t len, floodrafter_listing l)
     if (told > 0)
         fprintf(stderr, "%.*s\n", (int)told, (char *)sentence);
     else
-        fprintf(stderr, "expected a depth of 0 to %d\n", FLOODRAFTER_DEPTH_MAX);
+        fprintf(stderr, "the depth is %ld: it lies from 0 to %d\n", depth, FLOODRAFTER_DEPTH_MAX);
 }
 
 int main(int argc, char **argv)
@@ -62,7 +62,7 @@ int main(int argc, char **argv)
 
     floodrafter_listing l = floodrafter_halve(text, len, depth, list, sizeof list / sizeof *list);
     if (l.fault != FLOODRAFTER_DONE) {
-        tell_fault(text, len, l);
+        tell_fault(text, len, depth, l);
         return 1;
     }
     printf("boxes: %zu\n", l.boxes);

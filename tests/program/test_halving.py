@@ -3,11 +3,11 @@
 import os
 import subprocess
 import sys
-import threading
 import time
 import unittest
 
-from calls import EXAMPLES, JOB, MAX_TEXT, ROOT, WAIT, call, packet, pipe_not_waiting, request, start
+from calls import EXAMPLES, JOB, MAX_TEXT, ROOT, WAIT
+from calls import answered_not_waiting, call, packet, pipe_not_waiting, request, start
 from test_batch import BAD_LINE, BAD_TEXT, FAULT_1, FAULTY, SOLVE, SOLVED
 
 JOB_FILE = str(EXAMPLES / "job41.txt")
@@ -115,11 +115,12 @@ class Command(unittest.TestCase):
             self.assertEqual(call("halve", depth, given=NOTHING), (0, NOTHING_LISTED, ""))
 
     def test_depth(self):
-        said = "fault 8: expected a depth of 0 to 8\n"
         for depth in (9, -1, -8, 256, 2 ** 32, FAR, -FAR):
+            said = f"fault 8: the depth is {depth}: it lies from 0 to 8\n"
             self.assertEqual(call("halve", str(depth), given=JOB),
                              (1, b"fault=8\nline=0\n", f"standard input: {said}"))
-        self.assertEqual(call("halve", "9", JOB_FILE), (1, b"fault=8\nline=0\n", f"{JOB_FILE}: {said}"))
+            self.assertEqual(call("halve", str(depth), JOB_FILE),
+                             (1, b"fault=8\nline=0\n", f"{JOB_FILE}: {said}"))
 
     def test_job_first(self):
         """Its fault and its sentence, whatever the depth."""
@@ -222,13 +223,4 @@ class Writing(unittest.TestCase):
 
     def test_not_waiting(self):
         answer = packet(call("halve", "8", given=OPEN).out)
-        reading, writing = pipe_not_waiting(1)
-        run = start("batch", stdout=writing)
-        os.close(writing)
-        feeding = threading.Thread(target=run.communicate, args=(request("halve 8 256", OPEN) * 10,))
-        feeding.start()
-        time.sleep(0.2)
-        with open(reading, "rb") as answers:
-            self.assertEqual(answers.read(), answer * 10)
-        feeding.join()
-        self.assertEqual(run.returncode, 0)
+        self.assertEqual(answered_not_waiting(request("halve 8 256", OPEN) * 10), (answer * 10, 0))

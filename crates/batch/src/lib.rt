@@ -1,7 +1,7 @@
 // Many requests in one run, read and written by large blocks. Answers wait until the next read, which could wait
 // itself, or until they fill a block.
-pub mod hand;
-pub mod lists;
+mod hand;
+mod lists;
 
 ghost use Prim.Native.Nat.{_+_, _≤_};
 ghost use mathlib.Core.Path.{_≡_};
@@ -12,7 +12,6 @@ use crate::hand::Hand;
 use crate::hand::add;
 use crate::hand::ended;
 use crate::hand::going;
-use crate::lists::NUMBERS;
 use crate::lists::add_listing;
 use answers::ROOM;
 use answers::deep_asked;
@@ -20,6 +19,7 @@ use answers::reply;
 use answers::tell;
 use digits::DIGITS;
 use halving::LISTED;
+use halving::NUMBERS;
 use listing::list_text;
 use requests::Op;
 use requests::packets::HEADER;

@@ -12,51 +12,11 @@ use answers::ROOM;
 use answers::tell;
 use faults::Status;
 use faults::Written;
-use halving::LISTED;
 use listing::Listing;
 use listing::put_all;
 use listing::put_box;
 use listing::put_head;
-use sizes::BOXES;
-use streams::put;
 use writing::put_count_line;
-
-// The numbers of as many boxes as can be listed.
-pub const NUMBERS: usize = LISTED * BOXES;
-
-// A fault's two lines.
-pub fn put_fault(status: Status) -> bool {
-    let mut room = [0u8; ROOM];
-    let n = tell(Written { status, len: 0 }, &mut room);
-    put(&room[0..n])
-}
-
-fn print_head(l: Listing) -> bool {
-    let mut piece = [0u8; ROOM];
-    let n = put_head(&mut piece, 0, l);
-    put(&piece[0..n])
-}
-
-fn print_box(n: usize, list: &[i64], i: usize) -> bool
-    requires { ⌜ EntryIn n (now list) i ⌝ }
-{
-    let mut piece = [0u8; ROOM];
-    let n = put_box(&mut piece, 0, n, list, i);
-    put(&piece[0..n])
-}
-
-// On standard output; false where some cannot be written.
-pub fn print(l: Listing, list: &[i64]) -> bool
-    requires { ⌜ Readable l (now list) ⌝ }
-{
-    let mut whole = print_head(l);
-    let mut i = 0;
-    while i < l.boxes && whole {
-        whole = print_box(l.n, list, i);
-        i += 1;
-    }
-    whole
-}
 
 // How many bytes all pieces have: none of them is kept.
 fn measured(l: Listing, list: &[i64]) -> usize

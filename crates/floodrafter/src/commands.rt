@@ -1,7 +1,7 @@
 // The commands, and what is said of a call that names none of them.
 use crate::help;
-use crate::people::How;
 use libc::STDERR_FILENO;
+use people::How;
 use requests::Op;
 use streams::outcomes::Outcome;
 use streams::say;

@@ -1,7 +1,6 @@
 // The program floodrafter: texts in, texts out, over the proved desk.
 mod commands;
 mod help;
-mod people;
 
 use arguments::long_number;
 use commands::Command;
@@ -14,6 +13,7 @@ use commands::wrong_call;
 use digits::Number;
 use libc::STDIN_FILENO;
 use libc::STDOUT_FILENO;
+use people::DEPTH_PLACE;
 use streams::outcomes::Outcome;
 use streams::outcomes::hand_over;
 use streams::outcomes::written;
@@ -81,10 +81,10 @@ fn read(work: Work, count: usize, place: usize) -> Outcome {
 
 fn halve(count: usize) -> Outcome {
     let mut word = io::buffer();
-    let n = os::arg(2, &mut word);
+    let n = os::arg(DEPTH_PLACE, &mut word);
     let depth = long_number(&word[..n]);
     match depth {
-        Number::Is(d) => read(Work::Halve(d), count, 3),
+        Number::Is(d) => read(Work::Halve(d), count, DEPTH_PLACE + 1),
         Number::Bad => no_depth(&word[..n]),
     }
 }

@@ -22,12 +22,16 @@ use intervals::Interval;
 use jobs::Job;
 use jobs::Verdict;
 use run::run_from;
+use sizes::BOXES;
 use sizes::DEPTH;
 use sizes::N;
 use step::values;
 
 // Numbers of a listed box, whatever n is: unique or open, the low ends, the high ends.
 pub const LISTED: usize = 1 + N + N;
+
+// Those of as many boxes as can be listed.
+pub const NUMBERS: usize = LISTED * BOXES;
 
 // How many boxes are listed, none beside a fault.
 pub struct Halved {

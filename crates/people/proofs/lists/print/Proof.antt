@@ -1,9 +1,9 @@
--- `batch::lists::print` is safe and ends: the boxes that are left fall.
+-- `people::lists::print` is safe and ends: the boxes that are left fall.
 use Prim.Native.Nat.{_-_, _≤_}
 use borrow.Author.Needs.{needs}
 use native.Mathlib.Omega.{arith}
-use Rattle.batch.proofs.lists.print.Statement.{statement}
-use Rattle.batch.proofs.lists.print.Tie as tie
+use Rattle.people.proofs.lists.print.Statement.{statement}
+use Rattle.people.proofs.lists.print.Tie as tie
 
 abbrev Inv-loop : tie.InvT-loop
 Inv-loop l list whole₀ i₀ whole i = i ≤ l .boxes

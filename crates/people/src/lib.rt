@@ -1,14 +1,16 @@
 // For people: one text's answer, and a plain sentence beside a fault.
+mod lists;
+
 ghost use Prim.Native.Nat.{_≤_};
 ghost use Rattle.phrases.specs.Says.{sentenceMax};
+use crate::lists::print;
+use crate::lists::print_fault;
 use answers::ROOM;
 use answers::reply;
 use answers::tell;
-use batch::lists::NUMBERS;
-use batch::lists::print;
-use batch::lists::put_fault;
 use faults::Status;
 use faults::Written;
+use halving::NUMBERS;
 use listing::list_text;
 use requests::Op;
 use sentences::SENTENCE;
@@ -21,6 +23,9 @@ use streams::outcomes::Outcome;
 use streams::put;
 use streams::say;
 use streams::say_number;
+
+// The argument of the program that says how deep a job is halved.
+pub const DEPTH_PLACE: usize = 2;
 
 // What a text is answered by.
 pub enum How {
@@ -59,11 +64,20 @@ fn explain(result: bool, text: &[u8], out: &mut [u8]) -> usize
     explain_job(text, out)
 }
 
+// The depth, as it was typed.
+fn say_depth() {
+    let mut word = io::buffer();
+    let n = os::arg(DEPTH_PLACE, &mut word);
+    say(b"the depth is ");
+    say(&word[..n]);
+    say(b": it lies from 0 to ");
+    say_number(DEPTH);
+}
+
 // A text without a fault has no sentence: then it is the depth that was refused.
 fn say_sentence(sentence: &[u8]) {
     if sentence.len() == 0 {
-        say(b"expected a depth of 0 to ");
-        say_number(DEPTH);
+        say_depth();
     }
     say(sentence);
     say(b"\n");
@@ -95,7 +109,7 @@ fn list(depth: i64, text: &[u8], name: &[u8], list: &mut [i64]) -> Outcome {
     let status = l.status;
     let whole = match status {
         Status::Done => print(l, list),
-        Status::Refused(f, line) => put_fault(Status::Refused(f, line)),
+        Status::Refused(f, line) => print_fault(Status::Refused(f, line)),
     };
     if whole {
         return tell_fault(false, status, name, text);
