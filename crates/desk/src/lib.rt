@@ -42,7 +42,7 @@ pub fn rewrite_job(text: &[u8], out: &mut [u8]) -> Written
 }
 
 // What a reader took needs no second check, and neither does what a run made of it.
-pub fn write_run(j: Job, out: &mut [u8]) -> Written
+fn write_run(j: Job, out: &mut [u8]) -> Written
     requires { ⌜ checkJob j ≡ Status.Done ⌝ }
     ensures { λ a. ⌜ Leaves (runStatus j) (runText j) (now (out .entry)) (now (out .exit)) a ⌝ }
 {

@@ -5,7 +5,6 @@ ghost use Rattle.faults.specs.Answer.{Leaves};
 ghost use Rattle.job_parts.specs.Parts.{endOf};
 ghost use Rattle.desk.specs.Desk.{writtenStatus, writtenText, runStatus, runText, solvedStatus, solvedText};
 use checks::job::check_job;
-use desk::write_run;
 use faults::Status;
 use faults::Written;
 use faults::and_then;
@@ -40,13 +39,14 @@ pub fn end_job(p: Parts, out: &mut [u8]) -> Written
 fn solve_values(j: Job, out: &mut [u8]) -> Written
     ensures { λ a. ⌜ Leaves (runStatus j) (runText j) (now (out .entry)) (now (out .exit)) a ⌝ }
 {
-    let status = check_job(j);
+    let a = run::run(j);
+    let status = a.status;
     match status {
         Status::Refused(f, line) => Written {
             status: Status::Refused(f, line),
             len: 0,
         },
-        Status::Done => write_run(j, out),
+        Status::Done => result_write::write_result(a.result, out),
     }
 }
 

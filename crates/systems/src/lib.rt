@@ -133,17 +133,21 @@ pub fn equation_of(j: Job, i: usize) -> Equation
     let n = j.head.n;
     let head = j.head;
     let kind = head.kind;
-    let system = j.system;
     match kind {
-        Kind::Poly => system.eqs[i],
+        Kind::Poly => {
+            let eqs = j.system.eqs;
+            eqs[i]
+        }
         Kind::Linear => {
-            let row = system.rows[i];
+            let rows = j.system.rows;
+            let row = rows[i];
             let at = row.at;
-            let right = system.right[i];
-            linear_equation(at, right, n)
+            let right = j.system.right;
+            linear_equation(at, right[i], n)
         }
         Kind::Eigen => {
-            let row = system.rows[i];
+            let rows = j.system.rows;
+            let row = rows[i];
             let at = row.at;
             eigen_equation(at, i, head.pin - 1, n)
         }

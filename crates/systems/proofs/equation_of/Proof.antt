@@ -20,27 +20,27 @@ right-fits j e h i l = fits (parts-by j e h .1 .each i l) tt
 
 linear-equation-requires : tie.Need-linear-equation-requires
 linear-equation-requires c κs =
-    let p = c .before .before .before .before .before .before .before .pre in
-    let e = c .before .before .before .enum-told2 .given .1 in
+    let p = c .before .before .before .before .before .before .before .before .pre in
+    let e = c .before .before .before .before .before .enum-told2 .given .1 in
     (p .0 .places, rw (back (right-fits _ e (p .0) _ (p .1))) (parts-by _ e (p .0) .1 .each _ (p .1)))
 
 sub-eigen-equation : tie.Need-sub-eigen-equation
 sub-eigen-equation c =
     let p = c .before .before .before .before .before .before .before .pre in
-    pin-by _ (c .before .before .before .enum-told3 .given .1) (p .0) .0
+    pin-by _ (c .before .before .before .before .enum-told3 .given .1) (p .0) .0
 
 returns : tie.Need-returns
-returns c = sym (equation-by _ (c .before .enum-told .given .1) _)
+returns c = sym (equation-by _ (c .before .before .enum-told .given .1) _)
 
 returns-2 : tie.Need-returns-2
 returns-2 c =
-    let p = c .before .before .before .before .before .before .before .before .pre in
-    let e = c .before .before .before .before .enum-told2 .given .1 in
+    let p = c .before .before .before .before .before .before .before .before .before .pre in
+    let e = c .before .before .before .before .before .before .enum-told2 .given .1 in
     rw (back (right-fits _ e (p .0) _ (p .1))) at (c .linear-equation .ensures) ∙ sym (equation-by _ e _)
 
 returns-3 : tie.Need-returns-3
 returns-3 c =
-    c .eigen-equation .ensures ∙ sym (equation-by _ (c .before .before .before .before .enum-told3 .given .1) _)
+    c .eigen-equation .ensures ∙ sym (equation-by _ (c .before .before .before .before .before .enum-told3 .given .1) _)
 
 pub equation-of-spec : {M : Type 1} → statement M
 equation-of-spec =
