@@ -10,11 +10,14 @@ use lib.IntN.{ℤ}
 use lib.Signed.{ltZ, _≤ℤ_, _<ℤ_}
 use borrow.Author.Tests.{eqb-true, eqb-false}
 use lib.Dec.{eqb}
+use Rattle.sizes.specs.Sizes.{endMax}
 use Rattle.integers.proofs.Order.{ltZ-true, ltZ-false}
 use Rattle.integers.proofs.Parts.{zorder}
 use Rattle.lists.specs.Loops.{carry}
 use Rattle.intervals.specs.Places.{sideAt}
+use Rattle.intervals.specs.Ranges.{InI}
 use Rattle.intervals.specs.declared.Interval.{Interval}
+use Rattle.slopes.specs.Ranges.{BoxIn}
 use Rattle.edges.specs.Edges.{widthI, widerOf, widestOf, Widest}
 
 -- the same number or another
@@ -85,6 +88,10 @@ module _ (x : List Interval) where
 
   pub found-live : {k : ℕ} (n : ℕ) → 1 ≤ n → k ≡ widestOf n x → k < n
   found-live n l e = rw e (widest-found n l .live)
+
+  -- and its edge is in range
+  pub widest-in : (n : ℕ) → 1 ≤ n → BoxIn n (sideAt x) → InI endMax (sideAt x (widestOf n x))
+  widest-in n l box = box .each (widestOf n x) (widest-found n l .live)
 
   -- a place so found is one of those looked at
   pub wider-le : (i k : ℕ) → k ≤ i → widerOf x i k ≤ i

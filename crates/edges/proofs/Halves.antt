@@ -21,7 +21,7 @@ use Rattle.intervals.proofs.Ranges.{in-mid}
 use Rattle.slopes.specs.Fractions.{InBox}
 use Rattle.slopes.specs.Ranges.{BoxIn}
 use Rattle.edges.specs.Edges.{widestOf, lowPart, highPart, lowHalf, highHalf}
-use Rattle.edges.proofs.Found.{same-or, widest-found}
+use Rattle.edges.proofs.Found.{same-or, widest-found, widest-in}
 
 -- ---- one interval
 mid-above : (a : Interval) → a .lo ≤ℤ a .hi → a .lo ≤ℤ midI a
@@ -71,11 +71,11 @@ module _ {n : ℕ} (x : List Interval) (some : 1 ≤ n) (size : length x ≡ nMa
 
   pub low-in : BoxIn n (sideAt (lowHalf n x))
   unfolding lowHalf
-  low-in = put-in x (widestOf n x) room _ box (low-fits (box .each (widestOf n x) live))
+  low-in = put-in x (widestOf n x) room _ box (low-fits (widest-in x n some box))
 
   pub high-in : BoxIn n (sideAt (highHalf n x))
   unfolding highHalf
-  high-in = put-in x (widestOf n x) room _ box (high-fits (box .each (widestOf n x) live))
+  high-in = put-in x (widestOf n x) room _ box (high-fits (widest-in x n some box))
 
   pub halves-hold : {P : ℕ → ℤ} {d : ℤ} → InBox n P d (sideAt x)
       → InBox n P d (sideAt (lowHalf n x)) ⊎ InBox n P d (sideAt (highHalf n x))

@@ -1,55 +1,21 @@
--- low_half: the widest side is cut at its middle.
-use mathlib.Core.Path.{ap}
+-- low_half: the widest edge is cut at its middle.
 use native.Mathlib.Omega.{arith}
 use borrow.Author.Needs.{needs}
-use lib.ListN.{set}
-use mir.Syntax.{w64}
-use mir.Val.{SFits}
-use Rattle.integers.proofs.Machine.{back, got}
-use Rattle.intervals.specs.Places.{sideAt}
-use Rattle.intervals.proofs.Ends.{ends}
 use Rattle.intervals.proofs.Ranges.{fits-mid}
 use Rattle.edges.specs.Edges.{lowHalf}
-use Rattle.edges.proofs.Found.{found-live}
+use Rattle.edges.proofs.Found.{widest-in}
 use Rattle.edges.proofs.low_half.Statement.{statement}
 use Rattle.edges.proofs.low_half.Tie as tie
 
-mul-side : tie.Need-mul-side
-mul-side c = let s = c .before in omega (arith, s .pre .0 .places, found-live _ _ (s .pre .1) (c .widest .ensures))
-
-array-copy-out-side : tie.Need-array-copy-out-side
-array-copy-out-side c =
+low-part-requires : tie.Need-low-part-requires
+low-part-requires c κs =
     let s = c .before in
-    omega (arith, s .pre .0 .places, found-live _ _ (s .pre .1) (c .widest .ensures))
-
-middle-requires : tie.Need-middle-requires
-middle-requires c κs =
-    let w = c .before in
-    let s = w .before in
-    fits-mid (omega arith) (s .pre .0 .each (w .widest .result) (found-live _ _ (s .pre .1) (w .widest .ensures)))
-
-mul-half : tie.Need-mul-half
-mul-half c =
-    let w = c .before .before .before in
-    let s = w .before in
-    omega (arith, s .pre .0 .places, found-live _ _ (s .pre .1) (w .widest .ensures))
-
-array-set-from-half : tie.Need-array-set-from-half
-array-set-from-half c =
-    let w = c .before .before .before in
-    let s = w .before in
-    omega (arith, s .pre .0 .places, found-live _ _ (s .pre .1) (w .widest .ensures))
+    rw (c .widest-side .ensures) (fits-mid (omega arith) (widest-in (s .args .x) (s .args .n) (s .pre .1) (s .pre .0)))
 
 returns : tie.Need-returns
 unfolding lowHalf
 returns c =
-    let m = c .before in
-    let w = m .before .before in
-    let low : SFits w64 (sideAt (w .before .args .t1) (w .widest .result) .lo) = search needs in
-    rw (← w .widest .ensures)
-    (ap (set (w .before .args .t1) (w .widest .result)) (ends (back low) (got (m .middle .ok) (m .middle .ensures))))
+    rw (← c .before .before .widest-side .ensures, ← c .before .low-part .ensures) (c .with-widest .ensures)
 
 pub low-half-spec : {M : Type 1} → statement M
-low-half-spec =
-    tie.close
-    (tie.spec (λ c κs. search needs) mul-side array-copy-out-side middle-requires mul-half array-set-from-half returns)
+low-half-spec = tie.close (tie.spec (λ c κs. search needs) low-part-requires (λ c κs. search needs) returns)
