@@ -13,7 +13,7 @@ use Rattle.faults.proofs.Laws.{done-first, done-next}
 use Rattle.jobs.specs.declared.Job.{Job}
 use Rattle.checks.specs.Checks.{checkJob}
 use Rattle.step.specs.Values.{startOf}
-use Rattle.halving.specs.Boxes.{Listed, boxesOf}
+use Rattle.halving.specs.Boxes.{Listed, ranFrom, boxesOf}
 use Rattle.halving.specs.Lists.{listedPlaces, numbersOf, Lists}
 use Rattle.halving.specs.Halving.{depthStatus, halveStatus, Halves}
 use Rattle.halving.proofs.Parts.{boxes-few}
@@ -22,7 +22,7 @@ use Rattle.halving.proofs.Refusals.{room-holds}
 
 pub few-boxes : (j : Job) (depth : ℕ) → length (boxesOf j depth) ≤ 2 ^ depth
 unfolding boxesOf
-few-boxes j depth = boxes-few j depth (startOf j)
+few-boxes j depth = boxes-few (ranFrom j) (j .head .n) depth (startOf j)
 
 -- numbers from the start of a list on
 from-start : (numbers old : List ℤ) → length numbers ≤ length old

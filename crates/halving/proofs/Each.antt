@@ -19,7 +19,8 @@ use Rattle.edges.proofs.Halves.{low-in, high-in, low-length, high-length}
 use Rattle.step.specs.Values.{startOf, boxOf}
 use Rattle.step.proofs.Given.{start-in}
 use Rattle.runs.proofs.Left.{left-in, left-length}
-use Rattle.halving.specs.Boxes.{Listed, listedAs, ranFrom, listBy, cutBy, boxesFrom, boxesOf, Among}
+use Rattle.halving.specs.Boxes.{Listed, listedAs, ranFrom, listBy, cutBy}
+use Rattle.halving.specs.Boxes.{boxesBy, boxesFrom, boxesOf, Among}
 
 -- ---- among boxes
 pub among-left : (b : Listed) (xs ys : List Listed) → Among b xs → Among b (xs ++ ys)
@@ -90,7 +91,7 @@ module _ (j : Job) (a : Accepted j) where
         by false m = only _ (onOpen x right) m
 
     each-from : (depth : ℕ) (x : List Interval) → Right x → Among b (boxesFrom j depth x) → P b
-    unfolding boxesFrom
+    unfolding boxesBy
     each-from zero x right =
         by-verdict x right (ranFrom j x .verdict) refl _ (only _ (onOpen (ranFrom j x .sides) (returned x right)))
     each-from (suc depth) x right =

@@ -11,13 +11,12 @@ use lib.Dec.{eqb·suc-zero}
 use lib.ListN.{length, length-append}
 use lib.Pow.{pow-pos}
 use Rattle.intervals.specs.declared.Interval.{Interval}
-use Rattle.jobs.specs.declared.Job.{Job}
 use Rattle.jobs.specs.declared.Verdict.{Verdict}
 use Rattle.edges.specs.Edges.{isWide, lowHalf, highHalf}
 use Rattle.step.proofs.Decisions.{zero-one}
 use Rattle.run.specs.declared.Outcome.{Outcome}
 use Rattle.halving.specs.declared.Part.{Part}
-use Rattle.halving.specs.Boxes.{Listed, listedAs, ranFrom, listBy, cutBy, boxesFrom}
+use Rattle.halving.specs.Boxes.{Listed, listedAs, listBy, cutBy, boxesBy}
 use Rattle.halving.specs.Parts.{undecidedPart, partBy, partOf}
 
 -- what becomes of the box x that was not decided, a half with depth d giving `rest d`
@@ -101,17 +100,14 @@ module _ (n : ℕ) (x : List Interval) where
     halved Verdict.Stalled e = (cut-deep depth e, cut-taken rest depth e)
     halved Verdict.Spent e = (cut-deep depth e, cut-taken rest depth e)
 
-module _ (j : Job) (x : List Interval) where
+module _ (run : List Interval → Outcome) (n : ℕ) (x : List Interval) where
   abbrev o : Outcome
-  o = ranFrom j x
-
-  abbrev n : ℕ
-  n = j .head .n
+  o = run x
 
   -- the box that the run returns is dropped, listed or cut
   boxes-are : (depth : ℕ)
-      → boxesFrom j depth x ≡ listBy (o .verdict) (o .sides) (taken n (o .sides) depth (boxesFrom j))
-  unfolding boxesFrom
+      → boxesBy run n depth x ≡ listBy (o .verdict) (o .sides) (taken n (o .sides) depth (boxesBy run n))
+  unfolding boxesBy
   boxes-are zero = refl
   boxes-are (suc depth) = refl
 
@@ -119,27 +115,27 @@ module _ (j : Job) (x : List Interval) where
     abbrev part : Part
     part = partOf (o .verdict) n (o .sides) depth
 
-    pub boxes-dropped : part ≡ Part.Dropped → boxesFrom j depth x ≡ []
+    pub boxes-dropped : part ≡ Part.Dropped → boxesBy run n depth x ≡ []
     unfolding partOf
-    boxes-dropped e = boxes-are depth ∙ dropped n (o .sides) depth (boxesFrom j) (o .verdict) e
+    boxes-dropped e = boxes-are depth ∙ dropped n (o .sides) depth (boxesBy run n) (o .verdict) e
 
-    pub boxes-unique : part ≡ Part.Unique → boxesFrom j depth x ≡ listedAs true (o .sides)
+    pub boxes-unique : part ≡ Part.Unique → boxesBy run n depth x ≡ listedAs true (o .sides)
     unfolding partOf
-    boxes-unique e = boxes-are depth ∙ unique n (o .sides) depth (boxesFrom j) (o .verdict) e
+    boxes-unique e = boxes-are depth ∙ unique n (o .sides) depth (boxesBy run n) (o .verdict) e
 
-    pub boxes-open : part ≡ Part.Open → boxesFrom j depth x ≡ listedAs false (o .sides)
+    pub boxes-open : part ≡ Part.Open → boxesBy run n depth x ≡ listedAs false (o .sides)
     unfolding partOf
-    boxes-open e = boxes-are depth ∙ opened n (o .sides) depth (boxesFrom j) (o .verdict) e
+    boxes-open e = boxes-are depth ∙ opened n (o .sides) depth (boxesBy run n) (o .verdict) e
 
     pub cut-left : part ≡ Part.Cut → 1 ≤ depth
     unfolding partOf
-    cut-left e = halved n (o .sides) depth (boxesFrom j) (o .verdict) e .0
+    cut-left e = halved n (o .sides) depth (boxesBy run n) (o .verdict) e .0
 
-    pub boxes-cut : part ≡ Part.Cut → boxesFrom j depth x
-        ≡ boxesFrom j (depth - 1) (lowHalf n (o .sides))
-        ++ boxesFrom j (depth - 1) (highHalf n (o .sides))
+    pub boxes-cut : part ≡ Part.Cut → boxesBy run n depth x
+        ≡ boxesBy run n (depth - 1) (lowHalf n (o .sides))
+        ++ boxesBy run n (depth - 1) (highHalf n (o .sides))
     unfolding partOf
-    boxes-cut e = boxes-are depth ∙ halved n (o .sides) depth (boxesFrom j) (o .verdict) e .1
+    boxes-cut e = boxes-are depth ∙ halved n (o .sides) depth (boxesBy run n) (o .verdict) e .1
 
 -- ---- at most two to the power of the depth
 module _ (depth : ℕ) where
@@ -162,9 +158,10 @@ few-cut depth n x half h = by (isWide n x)
         simp length-append (omega (arith, h (lowHalf n x), h (highHalf n x)))
     by false = pow-pos (suc depth)
 
-pub boxes-few : (j : Job) (depth : ℕ) (x : List Interval) → length (boxesFrom j depth x) ≤ 2 ^ depth
-unfolding boxesFrom
-boxes-few j zero x = few-listed 0 (ranFrom j x .verdict) (ranFrom j x .sides) _ (pow-pos 0)
-boxes-few j (suc depth) x =
-    few-listed (suc depth) (ranFrom j x .verdict) (ranFrom j x .sides) _
-    (few-cut depth (j .head .n) (ranFrom j x .sides) (boxesFrom j depth) (boxes-few j depth))
+pub boxes-few : (run : List Interval → Outcome) (n depth : ℕ) (x : List Interval)
+    → length (boxesBy run n depth x) ≤ 2 ^ depth
+unfolding boxesBy
+boxes-few run n zero x = few-listed 0 (run x .verdict) (run x .sides) _ (pow-pos 0)
+boxes-few run n (suc depth) x =
+    few-listed (suc depth) (run x .verdict) (run x .sides) _
+    (few-cut depth n (run x .sides) (boxesBy run n depth) (boxes-few run n depth))

@@ -36,11 +36,13 @@ listBy Verdict.Spent x taken = taken
 unfoldable pub cutBy : ℕ → List Interval → (List Interval → List Listed) → List Listed
 cutBy n x half = cond (isWide n x) (half (lowHalf n x) ++ half (highHalf n x)) (listedAs false x)
 
--- "If depth is left", "with depth one less"
-unfoldable pub boxesFrom : Job → ℕ → List Interval → List Listed
-boxesFrom j zero x = listBy (ranFrom j x .verdict) (ranFrom j x .sides) (listedAs false (ranFrom j x .sides))
-boxesFrom j (suc depth) x =
-    listBy (ranFrom j x .verdict) (ranFrom j x .sides) (cutBy (j .head .n) (ranFrom j x .sides) (boxesFrom j depth))
+-- "If depth is left", "with depth one less": what comes of a box of n unknowns, where `run` runs it
+unfoldable pub boxesBy : (List Interval → Outcome) → ℕ → ℕ → List Interval → List Listed
+boxesBy run n zero x = listBy (run x .verdict) (run x .sides) (listedAs false (run x .sides))
+boxesBy run n (suc depth) x = listBy (run x .verdict) (run x .sides) (cutBy n (run x .sides) (boxesBy run n depth))
+
+abbrev pub boxesFrom : Job → ℕ → List Interval → List Listed
+boxesFrom j depth x = boxesBy (ranFrom j) (j .head .n) depth x
 
 -- from the job's own starting box
 unfoldable pub boxesOf : Job → ℕ → List Listed

@@ -7,12 +7,11 @@ use lib.IntN.{ℤ, pos}
 use lib.ListN.{length}
 use lib.Seq.{sets}
 use Rattle.sizes.specs.Sizes.{nMax}
-use Rattle.intervals.specs.Places.{sideAt}
+use Rattle.intervals.specs.Places.{entryAt, sideAt}
 use Rattle.intervals.specs.declared.Interval.{Interval}
-use Rattle.faults.specs.declared.Status.{Status}
-use Rattle.jobs.specs.declared.Job.{Job}
-use Rattle.checks.specs.Checks.{checkJob}
-use Rattle.slopes.specs.Ranges.{BoxIn}
+use Rattle.jobs.specs.Places.{equationAt}
+use Rattle.jobs.specs.declared.Equation.{Equation}
+use Rattle.step.specs.Ranges.{StepIn}
 use Rattle.step.specs.Values.{lowEnds, highEnds}
 use Rattle.halving.specs.Boxes.{Listed}
 
@@ -43,9 +42,10 @@ pub record Lists (n : ℕ) (old new : List ℤ) (at r : ℕ) (bs : List Listed) 
   pub next : r ≡ at + length bs
   pub list : new ≡ sets old (listedPlaces * at) (numbersOf n bs)
 
--- what is asked where the boxes that come of x, for an accepted job, are listed behind the first `at` in a list of
--- `room` numbers
-pub record ListsIn (j : Job) (x : List Interval) (depth room at : ℕ) : Type 0 where
-  pub checked : checkJob j ≡ Status.Done
-  pub box : BoxIn (j .head .n) (sideAt x)
+-- what is asked where the boxes that come of x are listed behind the first `at` in a list of `room` numbers
+pub record ListsIn (eqs : List Equation) (c : List (List ℤ)) (n : ℕ) (x : List Interval) (depth room at : ℕ)
+    : Type 0 where
+  pub step : StepIn n (equationAt eqs) (entryAt c) (sideAt x)
+  pub some : 1 ≤ n
+  pub size : length x ≡ nMax
   pub enough : listedPlaces * (at + 2 ^ depth) ≤ room

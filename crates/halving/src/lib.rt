@@ -3,12 +3,14 @@ ghost use mathlib.Core.Path.{_≡_};
 ghost use Prim.Native.Nat.{_+_, _*_, _^_, _≤_};
 ghost use lib.ListN.{length};
 ghost use Rattle.sizes.specs.Sizes.{nMax, depthMax};
-ghost use Rattle.intervals.specs.Places.{sideAt};
+ghost use Rattle.intervals.specs.Places.{entryAt, sideAt};
 ghost use Rattle.faults.specs.declared.Status.{Status};
+ghost use Rattle.jobs.specs.Places.{equationAt};
 ghost use Rattle.checks.specs.Checks.{checkJob};
 ghost use Rattle.slopes.specs.Ranges.{BoxIn};
-ghost use Rattle.halving.specs.Boxes.{listedAs, boxesFrom, boxesOf};
-ghost use Rattle.halving.specs.Parts.{undecidedPart, partOf, ranAs};
+ghost use Rattle.step.specs.Ranges.{StepIn};
+ghost use Rattle.halving.specs.Boxes.{listedAs, boxesBy, boxesOf};
+ghost use Rattle.halving.specs.Parts.{undecidedPart, partOf, runBy, ranAs};
 ghost use Rattle.halving.specs.Lists.{listedPlaces, uniqueNumber, Put, Lists, ListsIn};
 ghost use Rattle.halving.specs.Halving.{depthStatus, roomStatus, halveStatus, Halves};
 use checks::job::check_job;
@@ -19,9 +21,10 @@ use faults::Fault;
 use faults::Status;
 use faults::is_bad;
 use intervals::Interval;
+use jobs::Equation;
 use jobs::Job;
 use jobs::Verdict;
-use run::run_from;
+use run::run_system;
 use sizes::BOXES;
 use sizes::DEPTH;
 use sizes::N;
@@ -81,14 +84,20 @@ fn part_of(verdict: Verdict, x: [Interval; N], n: usize, depth: u64) -> Part
     }
 }
 
-// The run of a job from the box x on, with its own allowance.
-fn ran(j: Job, x: [Interval; N], depth: u64) -> Returned
-    requires { ⌜ checkJob j ≡ Status.Done ⌝ }
-    requires { ⌜ BoxIn (j .head .n) (sideAt x) ⌝ }
-    ensures { λ r. ⌜ r ≡ ranAs j depth x ⌝ }
+// The run from the box x on.
+fn ran(
+    eqs: [Equation; N],
+    c: [[i64; N]; N],
+    n: usize,
+    steps: u64,
+    x: [Interval; N],
+    depth: u64,
+) -> Returned
+    requires { ⌜ StepIn n (equationAt eqs) (entryAt c) (sideAt x) ⌝ }
+    requires { ⌜ 1 ≤ n ⌝ }
+    ensures { λ r. ⌜ r ≡ ranAs (runBy eqs c n steps x) n depth ⌝ }
 {
-    let n = j.head.n;
-    let o = run_from(j, x, j.steps);
+    let o = run_system(eqs, c, x, n, steps);
     let verdict = o.verdict;
     let sides = o.sides;
     let part = part_of(verdict, sides, n, depth);
@@ -133,12 +142,21 @@ fn put_box(list: &mut [i64], at: usize, unique: bool, x: [Interval; N], n: usize
 }
 
 // The boxes that come of x, behind the first `at`.
-fn list_from(j: Job, x: [Interval; N], depth: u64, list: &mut [i64], at: usize) -> usize
-    requires { ⌜ ListsIn j x depth (length (now list)) at ⌝ }
-    ensures { λ r. ⌜ Lists (j .head .n) (now (list .entry)) (now (list .exit)) at r (boxesFrom j depth x) ⌝ }
+fn list_from(
+    eqs: [Equation; N],
+    c: [[i64; N]; N],
+    n: usize,
+    steps: u64,
+    x: [Interval; N],
+    depth: u64,
+    list: &mut [i64],
+    at: usize,
+) -> usize
+    requires { ⌜ ListsIn eqs c n x depth (length (now list)) at ⌝ }
+    ensures { λ r. ⌜ Lists n (now (list .entry)) (now (list .exit)) at r
+        (boxesBy (runBy eqs c n steps) n depth x) ⌝ }
 {
-    let n = j.head.n;
-    let r = ran(j, x, depth);
+    let r = ran(eqs, c, n, steps, x, depth);
     let part = r.part;
     let sides = r.sides;
     match part {
@@ -146,8 +164,8 @@ fn list_from(j: Job, x: [Interval; N], depth: u64, list: &mut [i64], at: usize) 
         Part::Unique => put_box(list, at, true, sides, n),
         Part::Open => put_box(list, at, false, sides, n),
         Part::Cut => {
-            let next = list_from(j, low_half(sides, n), depth - 1, list, at);
-            list_from(j, high_half(sides, n), depth - 1, list, next)
+            let next = list_from(eqs, c, n, steps, low_half(sides, n), depth - 1, list, at);
+            list_from(eqs, c, n, steps, high_half(sides, n), depth - 1, list, next)
         }
     }
 }
@@ -189,15 +207,19 @@ fn halve_status(j: Job, depth: i64, room: usize) -> Status
     room_status(depth as u64, room)
 }
 
-// The boxes of a job whose check found nothing.
+// The boxes of a job whose check found nothing. Its equations are made once for all of them.
 fn list_job(j: Job, depth: u64, list: &mut [i64]) -> usize
     requires { ⌜ checkJob j ≡ Status.Done ⌝ }
     requires { ⌜ listedPlaces * 2 ^ depth ≤ length (now list) ⌝ }
     ensures { λ r. ⌜ Lists (j .head .n) (now (list .entry)) (now (list .exit)) 0 r (boxesOf j depth) ⌝ }
 {
+    let n = j.head.n;
     let ends = j.ends;
-    let x = values::box_of(ends, j.head.n);
-    list_from(j, x, depth, list, 0)
+    let inv = j.inv;
+    let eqs = systems::equations(j);
+    let c = values::matrix(inv, n);
+    let x = values::box_of(ends, n);
+    list_from(eqs, c, n, j.steps, x, depth, list, 0)
 }
 
 // Every value is taken: a fault is returned and touches no number of the list.

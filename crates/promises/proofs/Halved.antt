@@ -18,7 +18,8 @@ use Rattle.edges.proofs.Halves.{halves-hold}
 use Rattle.step.specs.Values.{startOf, inverseOf}
 use Rattle.runs.proofs.Runs.{run-shrinks, run-keeps}
 use Rattle.runs.proofs.Left.{job-degrees}
-use Rattle.halving.specs.Boxes.{Listed, listedAs, ranFrom, listBy, cutBy, boxesFrom, boxesOf, Among}
+use Rattle.halving.specs.Boxes.{Listed, listedAs, ranFrom, listBy, cutBy}
+use Rattle.halving.specs.Boxes.{boxesBy, boxesFrom, boxesOf, Among}
 use Rattle.halving.proofs.Each.{among-left, among-right, Right, returned, low, high, start, each-box}
 use Rattle.promises.specs.Claims.{Point, Lies, Same, Zero, BoxInside}
 use Rattle.promises.specs.Halved.{InListed}
@@ -84,7 +85,7 @@ module _ (j : Job) (a : Accepted j) where
     kept x h = run-keeps n (equationOf j) (inverseOf j) (a .few) (job-degrees j a) (zero-at .each) (j .steps) 0 x h
 
     covered : (depth : ℕ) (x : List Interval) → Right j a x → Lies n p x → InListed n p (boxesFrom j depth x)
-    unfolding boxesFrom
+    unfolding boxesBy
     covered zero x right h =
         listed (ranFrom j x .verdict) _ _ (kept x h .1) (kept x h .0) (in-one n p false _ (kept x h .0))
     covered (suc depth) x right h =

@@ -25,7 +25,7 @@ use Rattle.step.proofs.Given.{start-in}
 use Rattle.run.specs.declared.Outcome.{Outcome}
 use Rattle.run.specs.Job.{runFrom, outcomeOf, resultOf, runJob}
 use Rattle.runs.proofs.Runs.{run-count}
-use Rattle.runs.proofs.Left.{left-low, left-high, left-ordered}
+use Rattle.runs.proofs.Left.{left-in}
 use Rattle.result_form.specs.ResultShows.{showResult}
 use Rattle.result_form.proofs.Trips.{result-short}
 
@@ -53,10 +53,10 @@ module _ (j : Job) (checked : checkJob j ≡ Status.Done) where
         steps = omega (arith, run-count (j .head .n) (equationOf j) (inverseOf j) a 0 x, few);
         some = accepted .some;
         few = accepted .few;
-        low = within-all _ (j .head .n) endMax (λ k l. rw (low-at k l) (left-low j accepted x box a k l));
-        high = within-all _ (j .head .n) endMax (λ k l. rw (high-at k l) (left-high j accepted x box a k l));
+        low = within-all _ (j .head .n) endMax (λ k l. rw (low-at k l) (left-in j accepted x box a .each k l .low));
+        high = within-all _ (j .head .n) endMax (λ k l. rw (high-at k l) (left-in j accepted x box a .each k l .high));
         ordered = ordered-all _ _ (j .head .n)
-            (λ k l. rw (low-at k l, high-at k l) (left-ordered j accepted x box a k l));
+            (λ k l. rw (low-at k l, high-at k l) (left-in j accepted x box a .each k l .order));
       }
 
       pub from-checked : checkResult (resultOf j o) ≡ Status.Done

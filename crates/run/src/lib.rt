@@ -45,7 +45,7 @@ fn ended(verdict: Verdict, steps: u64, sides: [Interval; N]) -> Outcome
 
 // At most `allowance` steps from the box `start` on. Every step begun is counted, the deciding one too.
 // F and S are made here, since a function that is handed the equations copies all of them at each step.
-pub fn run_steps(
+fn run_steps(
     eqs: [Equation; N],
     c: [[i64; N]; N],
     start: [Interval; N],
@@ -91,8 +91,24 @@ fn bounded(n: usize) -> usize
     if n < N { n } else { N }
 }
 
+// The same of any count from 1 on: where the run of a job and halving meet, both with the equations made.
+pub fn run_system(
+    eqs: [Equation; N],
+    c: [[i64; N]; N],
+    start: [Interval; N],
+    n: usize,
+    allowance: u64,
+) -> Outcome
+    requires { ⌜ StepIn n (equationAt eqs) (entryAt c) (sideAt start) ⌝ }
+    requires { ⌜ 1 ≤ n ⌝ }
+    ensures { λ r. ⌜ r ≡ runOf n (equationAt eqs) (entryAt c) allowance 0 start ⌝ }
+{
+    let few = bounded(n);
+    run_steps(eqs, c, start, few, allowance)
+}
+
 // At most `allowance` steps of a job whose check found nothing, from any box in range on.
-pub fn run_from(j: Job, x: [Interval; N], allowance: u64) -> Outcome
+fn run_from(j: Job, x: [Interval; N], allowance: u64) -> Outcome
     requires { ⌜ checkJob j ≡ Status.Done ⌝ }
     requires { ⌜ BoxIn (j .head .n) (sideAt x) ⌝ }
     ensures { λ r. ⌜ r ≡ runFrom j x allowance ⌝ }
@@ -101,8 +117,7 @@ pub fn run_from(j: Job, x: [Interval; N], allowance: u64) -> Outcome
     let inv = j.inv;
     let eqs = systems::equations(j);
     let c = values::matrix(inv, n);
-    let few = bounded(n);
-    run_steps(eqs, c, x, few, allowance)
+    run_system(eqs, c, x, n, allowance)
 }
 
 pub fn result_of(j: Job, o: Outcome) -> Result

@@ -1,15 +1,15 @@
--- list_from: each call runs the job on a box, and on each half with a depth that is one less.
+-- list_from: each call runs a box, and each half with a depth that is one less.
 use Prim.Native.Nat.{ℕ, _<_}
 use native.Mathlib.Omega.{arith}
 use borrow.Author.Needs.{needs}
 use borrow.Fn.Kinds.{In}
 use borrow.Fn.PlainCycle.{Measures, is, falls, and}
 use mathlib.Core.Path.{_∙_}
-use Rattle.checks.proofs.AcceptedLaws.{check-done}
 use Rattle.edges.proofs.high_half.Reads as high-half-reads
 use Rattle.edges.proofs.low_half.Reads as low-half-reads
 use Rattle.halving.proofs.Lists.{lists-length, one-room, low-room}
-use Rattle.halving.proofs.Turns.{returned-in, low-box, high-box, depth-left, room-behind}
+use Rattle.halving.proofs.Turns.{returned-in, low-step, low-size, high-step, high-size}
+use Rattle.halving.proofs.Turns.{depth-left, room-behind}
 use Rattle.halving.proofs.Turns.{listed-none, listed-unique, listed-open, listed-cut}
 use Rattle.halving.proofs.list_from.Reads as list-from
 use Rattle.halving.proofs.list_from.Kinds as list-from-kinds
@@ -20,7 +20,7 @@ use Rattle.halving.proofs.+list_from.{statement}
 use Rattle.halving.proofs.+list_from.Tie.{close}
 
 abbrev μ-list-from : Measures 1 list-from-kinds.ps ℕ
-μ-list-from κs a = a .1 .1 .0
+μ-list-from κs a = a .1 .1 .1 .1 .1 .0
 
 abbrev list-from-at : ℕ → In 1 list-from-kinds.ps
 list-from-at t = and 1 list-from-kinds.ps (is 1 list-from-kinds.ps μ-list-from t) list-from.Pre
@@ -44,37 +44,39 @@ pub +list-from-spec : {M : Type 1} → statement M
     (list-from-at t)
     list-from.Post
     -- the run
-    (λ c κs. (c .pre .1 .checked, c .pre .1 .box))
+    (λ c κs. (c .pre .1 .step, c .pre .1 .some))
     (λ c. search needs)
     (λ c. search needs)
     -- a box that is listed as unique
     (λ c κs.
     let s = c .before .before .before .before .before in
-    (check-done _ (s .pre .1 .checked) .few, one-room _ (s .args .depth) _ (s .pre .1 .enough)))
+    (s .pre .1 .step .box .places, one-room _ (s .args .depth) _ (s .pre .1 .enough)))
     (λ c. search needs)
     -- one that is listed as open
     (λ c κs.
     let s = c .before .before .before .before .before in
-    (check-done _ (s .pre .1 .checked) .few, one-room _ (s .args .depth) _ (s .pre .1 .enough)))
+    (s .pre .1 .step .box .places, one-room _ (s .args .depth) _ (s .pre .1 .enough)))
     (λ c. search needs)
     -- the low half
     (λ c κs.
     let r = c .before .before .before in
     let s = r .before in (
-      returned-in _ _ _ (r .ran .ensures) (s .pre .1 .checked) (s .pre .1 .box) (omega arith),
-      check-done _ (s .pre .1 .checked) .some,
+      returned-in (r .before .args .eqs) (r .before .args .c) _ _ (r .before .args .x) _ (r .ran .ensures) (s .pre .1 .step) (s .pre .1 .some) (s .pre .1 .size),
+      s .pre .1 .some,
     ))
     (λ c. let r = c .before .before .before .before in
-    omega (arith, depth-left _ _ _ (r .ran .ensures) (c .before .enum-told4 .given .1)))
+    omega (arith, depth-left (r .before .args .eqs) (r .before .args .c) _ _ (r .before .args .x) _ (r .ran .ensures) (c .before .enum-told4 .given .1)))
     (λ c κs.
     let r = c .before .before .before .before .before in
     let s = r .before in
-    let deep = depth-left _ _ _ (r .ran .ensures) (c .before .before .enum-told4 .given .1) in (
+    let deep = depth-left (r .before .args .eqs) (r .before .args .c) _ _ (r .before .args .x) _ (r .ran .ensures) (c .before .before .enum-told4 .given .1) in (
       omega (arith, deep, s .pre .0),
       record {
-        checked = s .pre .1 .checked;
-        box = low-box _ _ _ (r .ran .ensures) (s .pre .1 .checked) (s .pre .1 .box) (omega arith)
+        step = low-step (r .before .args .eqs) (r .before .args .c) _ _ (r .before .args .x) _ (r .ran .ensures) (s .pre .1 .step) (s .pre .1 .some) (s .pre .1 .size)
             (c .before .low-half .ensures);
+        some = s .pre .1 .some;
+        size = low-size (r .before .args .eqs) (r .before .args .c) _ _ (r .before .args .x) _ (r .ran .ensures)
+            (s .pre .1 .step) (s .pre .1 .some) (s .pre .1 .size) (c .before .low-half .ensures);
         enough = low-room _ (s .args .depth) _ deep (s .pre .1 .enough);
       },
     ))
@@ -82,39 +84,42 @@ pub +list-from-spec : {M : Type 1} → statement M
     (λ c κs.
     let r = c .before .before .before .before .before .before .before in
     let s = r .before in (
-      returned-in _ _ _ (r .ran .ensures) (s .pre .1 .checked) (s .pre .1 .box) (omega arith),
-      check-done _ (s .pre .1 .checked) .some,
+      returned-in (r .before .args .eqs) (r .before .args .c) _ _ (r .before .args .x) _ (r .ran .ensures) (s .pre .1 .step) (s .pre .1 .some) (s .pre .1 .size),
+      s .pre .1 .some,
     ))
     (λ c. let r = c .before .before .before .before .before .before .before .before in
     omega (
       arith,
-      depth-left _ _ _ (r .ran .ensures)
+      depth-left (r .before .args .eqs) (r .before .args .c) _ _ (r .before .args .x) _ (r .ran .ensures)
           (c .before .before .before .before .before .enum-told4 .given .1),
     ))
     (λ c κs.
     let low = c .before .before .before in
     let r = low .before .before .before .before .before .before in
     let s = r .before in
-    let deep = depth-left _ _ _ (r .ran .ensures) (low .before .before .before .enum-told4 .given .1) in (
+    let deep = depth-left (r .before .args .eqs) (r .before .args .c) _ _ (r .before .args .x) _ (r .ran .ensures) (low .before .before .before .enum-told4 .given .1) in (
       omega (arith, deep, s .pre .0),
       record {
-        checked = s .pre .1 .checked;
-        box = high-box _ _ _ (r .ran .ensures) (s .pre .1 .checked) (s .pre .1 .box) (omega arith)
+        step = high-step (r .before .args .eqs) (r .before .args .c) _ _ (r .before .args .x) _ (r .ran .ensures) (s .pre .1 .step) (s .pre .1 .some) (s .pre .1 .size)
             (c .before .high-half .ensures);
+        some = s .pre .1 .some;
+        size = high-size (r .before .args .eqs) (r .before .args .c) _ _ (r .before .args .x) _ (r .ran .ensures)
+            (s .pre .1 .step) (s .pre .1 .some) (s .pre .1 .size) (c .before .high-half .ensures);
         enough = room-behind _ _ (s .args .depth) deep (s .pre .1 .enough) (low .list-from .ensures);
       },
     ))
     -- what is listed
-    (λ c. listed-none _ _ _ (c .before .before .before .ran .ensures) _ _ (c .enum-told .given .1))
+    (λ c. listed-none (c .before .before .before .before .args .eqs) (c .before .before .before .before .args .c) _ _ _ _
+    (c .before .before .before .ran .ensures) _ _ (c .enum-told .given .1))
     (λ c. lists-length _ (c .before .put-box .ensures))
     (λ c.
     let r = c .before .before .before .before .before .before in
-    listed-unique _ _ _ (r .ran .ensures) (c .before .before .before .enum-told2 .given .1)
+    listed-unique (r .before .args .eqs) (r .before .args .c) _ _ (r .before .args .x) _ (r .ran .ensures) (c .before .before .before .enum-told2 .given .1)
     (c .before .put-box .ensures))
     (λ c. lists-length _ (c .before .put-box2 .ensures))
     (λ c.
     let r = c .before .before .before .before .before .before in
-    listed-open _ _ _ (r .ran .ensures) (c .before .before .before .enum-told3 .given .1)
+    listed-open (r .before .args .eqs) (r .before .args .c) _ _ (r .before .args .x) _ (r .ran .ensures) (c .before .before .before .enum-told3 .given .1)
     (c .before .put-box2 .ensures))
     (λ c.
     lists-length _ (c .before .list-from2 .ensures)
@@ -124,5 +129,5 @@ pub +list-from-spec : {M : Type 1} → statement M
     let low = high .before .before in
     let half = low .before .before in
     let r = half .before .before .before .before in
-    listed-cut _ _ _ (r .ran .ensures) (half .before .enum-told4 .given .1) (half .low-half .ensures)
+    listed-cut (r .before .args .eqs) (r .before .args .c) _ _ (r .before .args .x) _ (r .ran .ensures) (half .before .enum-told4 .given .1) (half .low-half .ensures)
     (high .high-half .ensures) (low .list-from .ensures) (c .before .list-from2 .ensures))

@@ -4,8 +4,7 @@ use mathlib.Core.Path.{ap, ap₂, _∙_}
 use mathlib.Core.List.{List}
 use Rattle.intervals.specs.declared.Interval.{Interval}
 use Rattle.run.specs.declared.Outcome.{Outcome}
-use Rattle.checks.proofs.AcceptedLaws.{check-done}
-use Rattle.runs.proofs.Left.{left-in}
+use Rattle.runs.proofs.Left.{step-left}
 use Rattle.halving.specs.declared.Part.{Part}
 use Rattle.halving.specs.declared.Returned.{Returned}
 use Rattle.halving.specs.Parts.{partOf}
@@ -15,20 +14,17 @@ use Rattle.halving.proofs.ran.Tie as tie
 part-of-requires : tie.Need-part-of-requires
 part-of-requires c κs =
     let s = c .before .before in
-    let j = s .args .j in
-    let good = check-done j (s .pre .0) in
-    (rw (c .before .run-from .ensures) (left-in j good (s .args .x) (s .pre .1) (j .steps)), good .some)
+    (rw (c .before .run-system .ensures) (step-left (s .args .x) (s .pre .0) (s .args .steps)), s .pre .1)
 
 abbrev returned : Part → List Interval → Returned
 returned part x = record { part = part; sides = x }
 
 returns : tie.Need-returns
 returns c =
-    let o = c .before .before .run-from .ensures in
+    let o = c .before .before .run-system .ensures in
     let s = c .before .before .before in
     ap₂ returned
-    (c .part-of .ensures
-    ∙ ap (λ (o : Outcome). partOf (o .verdict) (s .args .j .head .n) (o .sides) (s .args .depth)) o)
+    (c .part-of .ensures ∙ ap (λ (o : Outcome). partOf (o .verdict) (s .args .n) (o .sides) (s .args .depth)) o)
     (ap (λ (o : Outcome). o .sides) o)
 
 pub ran-spec : {M : Type 1} → statement M

@@ -12,26 +12,20 @@ equations-requires c κs = let s = c .before in job-in (check-done (s .args .j) 
 matrix-requires : tie.Need-matrix-requires
 matrix-requires c κs = let s = c .before .before in check-done (s .args .j) (s .pre .0) .few
 
-bounded-requires : tie.Need-bounded-requires
-bounded-requires c κs =
-    let s = c .before .before .before in
-    let good = check-done (s .args .j) (s .pre .0) in
-    (good .some, good .few)
-
-run-steps-requires : tie.Need-run-steps-requires
-run-steps-requires c κs =
-    let e = c .before .before in
-    let s = e .before .before in
-    rw (c .bounded .ensures)
-    (step-in (s .args .j) (s .pre .0) (e .equations .ensures) (c .before .matrix .ensures) (s .args .x) (s .pre .1))
+run-system-requires : tie.Need-run-system-requires
+run-system-requires c κs =
+    let e = c .before in
+    let s = e .before .before in (
+      step-in (s .args .j) (s .pre .0) (e .equations .ensures) (c .matrix .ensures) (s .args .x) (s .pre .1),
+      check-done (s .args .j) (s .pre .0) .some,
+    )
 
 returns : tie.Need-returns
 returns c =
-    let e = c .before .before .before in
+    let e = c .before .before in
     let s = e .before .before in
-    let made = run-made (s .args .j) (s .pre .0) (e .equations .ensures) (c .before .before .matrix .ensures) in
-    rw (c .before .bounded .ensures) at (c .run-steps .ensures) ∙ made (s .args .x) (s .args .allowance)
+    let made = run-made (s .args .j) (s .pre .0) (e .equations .ensures) (c .before .matrix .ensures) in
+    c .run-system .ensures ∙ made (s .args .x) (s .args .allowance)
 
 pub run-from-spec : {M : Type 1} → statement M
-run-from-spec =
-    tie.close (tie.spec equations-requires matrix-requires bounded-requires run-steps-requires returns)
+run-from-spec = tie.close (tie.spec equations-requires matrix-requires run-system-requires returns)
