@@ -17,7 +17,6 @@ use Rattle.jobs.specs.declared.Job.{Job}
 use Rattle.checks.specs.Checks.{checkJob}
 use Rattle.slopes.specs.Ranges.{BoxIn}
 use Rattle.systems.specs.Kinds.{equationsOf}
-use Rattle.step.specs.Ranges.{StepIn}
 use Rattle.run.specs.declared.Outcome.{Outcome}
 use Rattle.run.proofs.JobLaws.{run-made}
 use Rattle.edges.specs.Edges.{lowHalf, highHalf}
@@ -28,11 +27,12 @@ use Rattle.halving.specs.declared.Part.{Part}
 use Rattle.halving.specs.declared.Returned.{Returned}
 use Rattle.halving.specs.Boxes.{listedAs, boxesBy, boxesFrom}
 use Rattle.halving.specs.Parts.{runBy, ranAs}
-use Rattle.halving.specs.Lists.{listedPlaces, Lists}
+use Rattle.halving.specs.Lists.{listedPlaces, Lists, ListsIn}
 use Rattle.halving.proofs.Parts.{boxes-dropped, boxes-unique, boxes-open, cut-left, boxes-cut, boxes-few}
 use Rattle.halving.proofs.Lists.{lists-none, lists-append, lists-length, high-room}
 
-module _ (eqs : List Equation) (c : List (List ℤ)) (n steps : ℕ) (x : List Interval) (depth : ℕ) {r : Returned}
+module _ {eqs : List Equation} {c : List (List ℤ)} {n : ℕ} {x : List Interval} {depth room first : ℕ}
+    (asked : ListsIn eqs c n x depth room first) (steps : ℕ) {r : Returned}
     (made : r ≡ ranAs (runBy eqs c n steps x) n depth) where
   abbrev run : List Interval → Outcome
   run = runBy eqs c n steps
@@ -44,29 +44,33 @@ module _ (eqs : List Equation) (c : List (List ℤ)) (n steps : ℕ) (x : List I
   sides-are = ap (λ (r : Returned). r .sides) made
 
   -- ---- the halves
-  module _ (step : StepIn n (equationAt eqs) (entryAt c) (sideAt x)) (some : 1 ≤ n) (size : length x ≡ nMax) where
-    pub returned-in : BoxIn n (sideAt (r .sides))
-    returned-in = rw sides-are (step-left x step steps)
+  pub returned-in : BoxIn n (sideAt (r .sides))
+  returned-in = rw sides-are (step-left x (asked .step) steps)
 
-    returned-length : length (r .sides) ≡ nMax
-    returned-length = rw sides-are (run-length n (equationAt eqs) (entryAt c) steps 0 x size)
+  returned-length : length (r .sides) ≡ nMax
+  returned-length = rw sides-are (run-length n (equationAt eqs) (entryAt c) steps 0 x (asked .size))
 
-    on : (half : List Interval) → BoxIn n (sideAt half) → StepIn n (equationAt eqs) (entryAt c) (sideAt half)
-    on half box = record { system = step .system; inverse = step .inverse; box = box }
+  -- a half with its own depth and room
+  half-asked : (half : List Interval) {deep rest at : ℕ} → BoxIn n (sideAt half) → length half ≡ nMax
+      → listedPlaces * (at + 2 ^ deep) ≤ rest → ListsIn eqs c n half deep rest at
+  half-asked half box size enough = record {
+    step = record { system = asked .step .system; inverse = asked .step .inverse; box = box };
+    some = asked .some;
+    size = size;
+    enough = enough;
+  }
 
-    pub low-step : {half : List Interval} → half ≡ lowHalf n (r .sides)
-        → StepIn n (equationAt eqs) (entryAt c) (sideAt half)
-    low-step {half} e = on half (rw e (low-in (r .sides) some returned-length returned-in))
+  pub low-asked : {half : List Interval} {deep rest at : ℕ} → half ≡ lowHalf n (r .sides)
+      → listedPlaces * (at + 2 ^ deep) ≤ rest → ListsIn eqs c n half deep rest at
+  low-asked {half} e =
+      half-asked half (rw e (low-in (r .sides) (asked .some) returned-length returned-in))
+      (rw e (low-length n (r .sides) returned-length))
 
-    pub low-size : {half : List Interval} → half ≡ lowHalf n (r .sides) → length half ≡ nMax
-    low-size e = rw e (low-length n (r .sides) returned-length)
-
-    pub high-step : {half : List Interval} → half ≡ highHalf n (r .sides)
-        → StepIn n (equationAt eqs) (entryAt c) (sideAt half)
-    high-step {half} e = on half (rw e (high-in (r .sides) some returned-length returned-in))
-
-    pub high-size : {half : List Interval} → half ≡ highHalf n (r .sides) → length half ≡ nMax
-    high-size e = rw e (high-length n (r .sides) returned-length)
+  pub high-asked : {half : List Interval} {deep rest at : ℕ} → half ≡ highHalf n (r .sides)
+      → listedPlaces * (at + 2 ^ deep) ≤ rest → ListsIn eqs c n half deep rest at
+  high-asked {half} e =
+      half-asked half (rw e (high-in (r .sides) (asked .some) returned-length returned-in))
+      (rw e (high-length n (r .sides) returned-length))
 
   pub depth-left : r .part ≡ Part.Cut → 1 ≤ depth
   depth-left e = cut-left run n x depth (part-is e)

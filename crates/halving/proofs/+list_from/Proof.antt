@@ -8,8 +8,7 @@ use mathlib.Core.Path.{_∙_}
 use Rattle.edges.proofs.high_half.Reads as high-half-reads
 use Rattle.edges.proofs.low_half.Reads as low-half-reads
 use Rattle.halving.proofs.Lists.{lists-length, one-room, low-room}
-use Rattle.halving.proofs.Turns.{returned-in, low-step, low-size, high-step, high-size}
-use Rattle.halving.proofs.Turns.{depth-left, room-behind}
+use Rattle.halving.proofs.Turns.{returned-in, low-asked, high-asked, depth-left, room-behind}
 use Rattle.halving.proofs.Turns.{listed-none, listed-unique, listed-open, listed-cut}
 use Rattle.halving.proofs.list_from.Reads as list-from
 use Rattle.halving.proofs.list_from.Kinds as list-from-kinds
@@ -61,65 +60,62 @@ pub +list-from-spec : {M : Type 1} → statement M
     (λ c κs.
     let r = c .before .before .before in
     let s = r .before in (
-      returned-in (r .before .args .eqs) (r .before .args .c) _ _ (r .before .args .x) _ (r .ran .ensures) (s .pre .1 .step) (s .pre .1 .some) (s .pre .1 .size),
+      returned-in (s .pre .1) (s .args .steps) (r .ran .ensures),
       s .pre .1 .some,
     ))
-    (λ c. let r = c .before .before .before .before in
-    omega (arith, depth-left (r .before .args .eqs) (r .before .args .c) _ _ (r .before .args .x) _ (r .ran .ensures) (c .before .enum-told4 .given .1)))
+    (λ c.
+    let r = c .before .before .before .before in
+    let s = r .before in
+    omega (arith, depth-left (s .pre .1) (s .args .steps) (r .ran .ensures) (c .before .enum-told4 .given .1)))
     (λ c κs.
     let r = c .before .before .before .before .before in
     let s = r .before in
-    let deep = depth-left (r .before .args .eqs) (r .before .args .c) _ _ (r .before .args .x) _ (r .ran .ensures) (c .before .before .enum-told4 .given .1) in (
+    let deep = depth-left (s .pre .1) (s .args .steps) (r .ran .ensures) (c .before .before .enum-told4 .given .1) in (
       omega (arith, deep, s .pre .0),
-      record {
-        step = low-step (r .before .args .eqs) (r .before .args .c) _ _ (r .before .args .x) _ (r .ran .ensures) (s .pre .1 .step) (s .pre .1 .some) (s .pre .1 .size)
-            (c .before .low-half .ensures);
-        some = s .pre .1 .some;
-        size = low-size (r .before .args .eqs) (r .before .args .c) _ _ (r .before .args .x) _ (r .ran .ensures)
-            (s .pre .1 .step) (s .pre .1 .some) (s .pre .1 .size) (c .before .low-half .ensures);
-        enough = low-room _ (s .args .depth) _ deep (s .pre .1 .enough);
-      },
+      low-asked (s .pre .1) (s .args .steps) (r .ran .ensures) (c .before .low-half .ensures)
+          (low-room _ (s .args .depth) _ deep (s .pre .1 .enough)),
     ))
     -- the high half
     (λ c κs.
     let r = c .before .before .before .before .before .before .before in
     let s = r .before in (
-      returned-in (r .before .args .eqs) (r .before .args .c) _ _ (r .before .args .x) _ (r .ran .ensures) (s .pre .1 .step) (s .pre .1 .some) (s .pre .1 .size),
+      returned-in (s .pre .1) (s .args .steps) (r .ran .ensures),
       s .pre .1 .some,
     ))
-    (λ c. let r = c .before .before .before .before .before .before .before .before in
+    (λ c.
+    let r = c .before .before .before .before .before .before .before .before in
+    let s = r .before in
     omega (
       arith,
-      depth-left (r .before .args .eqs) (r .before .args .c) _ _ (r .before .args .x) _ (r .ran .ensures)
+      depth-left (s .pre .1) (s .args .steps) (r .ran .ensures)
           (c .before .before .before .before .before .enum-told4 .given .1),
     ))
     (λ c κs.
     let low = c .before .before .before in
     let r = low .before .before .before .before .before .before in
     let s = r .before in
-    let deep = depth-left (r .before .args .eqs) (r .before .args .c) _ _ (r .before .args .x) _ (r .ran .ensures) (low .before .before .before .enum-told4 .given .1) in (
+    let part = low .before .before .before .enum-told4 .given .1 in
+    let deep = depth-left (s .pre .1) (s .args .steps) (r .ran .ensures) part in (
       omega (arith, deep, s .pre .0),
-      record {
-        step = high-step (r .before .args .eqs) (r .before .args .c) _ _ (r .before .args .x) _ (r .ran .ensures) (s .pre .1 .step) (s .pre .1 .some) (s .pre .1 .size)
-            (c .before .high-half .ensures);
-        some = s .pre .1 .some;
-        size = high-size (r .before .args .eqs) (r .before .args .c) _ _ (r .before .args .x) _ (r .ran .ensures)
-            (s .pre .1 .step) (s .pre .1 .some) (s .pre .1 .size) (c .before .high-half .ensures);
-        enough = room-behind _ _ (s .args .depth) deep (s .pre .1 .enough) (low .list-from .ensures);
-      },
+      high-asked (s .pre .1) (s .args .steps) (r .ran .ensures) (c .before .high-half .ensures)
+          (room-behind _ _ (s .args .depth) deep (s .pre .1 .enough) (low .list-from .ensures)),
     ))
     -- what is listed
-    (λ c. listed-none (c .before .before .before .before .args .eqs) (c .before .before .before .before .args .c) _ _ _ _
-    (c .before .before .before .ran .ensures) _ _ (c .enum-told .given .1))
+    (λ c.
+    let r = c .before .before .before in
+    let s = r .before in
+    listed-none (s .pre .1) (s .args .steps) (r .ran .ensures) _ _ (c .enum-told .given .1))
     (λ c. lists-length _ (c .before .put-box .ensures))
     (λ c.
     let r = c .before .before .before .before .before .before in
-    listed-unique (r .before .args .eqs) (r .before .args .c) _ _ (r .before .args .x) _ (r .ran .ensures) (c .before .before .before .enum-told2 .given .1)
+    let s = r .before in
+    listed-unique (s .pre .1) (s .args .steps) (r .ran .ensures) (c .before .before .before .enum-told2 .given .1)
     (c .before .put-box .ensures))
     (λ c. lists-length _ (c .before .put-box2 .ensures))
     (λ c.
     let r = c .before .before .before .before .before .before in
-    listed-open (r .before .args .eqs) (r .before .args .c) _ _ (r .before .args .x) _ (r .ran .ensures) (c .before .before .before .enum-told3 .given .1)
+    let s = r .before in
+    listed-open (s .pre .1) (s .args .steps) (r .ran .ensures) (c .before .before .before .enum-told3 .given .1)
     (c .before .put-box2 .ensures))
     (λ c.
     lists-length _ (c .before .list-from2 .ensures)
@@ -129,5 +125,6 @@ pub +list-from-spec : {M : Type 1} → statement M
     let low = high .before .before in
     let half = low .before .before in
     let r = half .before .before .before .before in
-    listed-cut (r .before .args .eqs) (r .before .args .c) _ _ (r .before .args .x) _ (r .ran .ensures) (half .before .enum-told4 .given .1) (half .low-half .ensures)
-    (high .high-half .ensures) (low .list-from .ensures) (c .before .list-from2 .ensures))
+    let s = r .before in
+    listed-cut (s .pre .1) (s .args .steps) (r .ran .ensures) (half .before .enum-told4 .given .1)
+    (half .low-half .ensures) (high .high-half .ensures) (low .list-from .ensures) (c .before .list-from2 .ensures))
