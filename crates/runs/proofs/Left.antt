@@ -61,7 +61,7 @@ step-left {n} {q} {C} x h a =
 
 -- ---- an accepted job
 module _ (j : Job) (accepted : Accepted j) where
-  pub given-degrees : (i : ℕ)
+  given-degrees : (i : ℕ)
       → i < j .head .n → j .head .kind ≡ Kind.Poly → DegreesIn (j .head .n) (equationBy Kind.Poly j i)
   given-degrees i l e =
       let good : GoodSystem Kind.Poly j i = rw e at (accepted .system i l) in

@@ -1,5 +1,4 @@
 -- run_system: the count that is handed on is n itself.
-use borrow.Author.Needs.{needs}
 use Rattle.run.proofs.run_system.Statement.{statement}
 use Rattle.run.proofs.run_system.Tie as tie
 
