@@ -51,8 +51,6 @@ struct worst {
     double step, solve, reading;
 };
 
-enum { UNKNOWNS = 4 };
-
 static void keep_worst(double *worst, double ratio)
 {
     if (*worst < ratio)
@@ -104,14 +102,14 @@ static void print_longest(const char *name, int extra, struct worst *worst)
 static void print_worst(const struct worst *worst)
 {
     printf("\nThe greatest ratios:\n");
-    for (int n = 1; n <= UNKNOWNS; n++) {
+    for (int n = 1; n <= FLOODRAFTER_N; n++) {
         if (worst[n].step > 0)
             printf("n=%d: step %.2f, text to text %.2f, reading %.2f\n", n, worst[n].step, worst[n].solve, worst[n].reading);
     }
 }
 
-/* The sorts whose texts are read in parts too: 1 unknown, and 4 with 16 terms. bench/count has the same. */
-static const size_t sorts_in_parts[] = {0, 3};
+/* The sorts whose texts are read in parts too: 1 unknown, and 4 and 6 with 16 terms. bench/count has the same. */
+static const size_t sorts_in_parts[] = {0, 3, 11};
 
 static void print_in_parts(const struct sort *sort)
 {
@@ -139,7 +137,7 @@ static void print_all_in_parts(void)
 }
 
 /* The sorts whose boxes are halved too, and the steps of each run. bench/count has the same sorts. */
-static const size_t sorts_halved[] = {0, 1, 3, 6};
+static const size_t sorts_halved[] = {0, 1, 3, 6, 11};
 enum { HALVED = sizeof sorts_halved / sizeof sorts_halved[0], HALVED_STEPS = 2 };
 
 static void print_halved(const struct sort *sort)
@@ -162,8 +160,8 @@ static void print_all_halved(void)
         print_halved(&sorts[sorts_halved[s]]);
 }
 
-/* Terms that make the longest job's text 2,047 bytes long. */
-enum { MORE_TERMS = 63 };
+/* Terms that make the longest job's text 4,087 bytes long. */
+enum { MORE_TERMS = 129 };
 
 static void check_all(const char *requests)
 {
@@ -239,15 +237,15 @@ int main(int count, char **words)
         return 1;
     }
     check_all(words[1]);
-    struct worst worst[UNKNOWNS + 1] = {{0, 0, 0}};
+    struct worst worst[FLOODRAFTER_N + 1] = {{0, 0, 0}};
     printf("A ratio is the time of the library over the time of the peer.\n%s\n\n", targets);
     printf("%-19s | %-32s | %-32s | %-30s\n", "", "nanoseconds a step", "jobs a second, text to text", "reading, megabytes a second");
     printf("%-19s | %5s %9s %9s %6s | %5s %9s %9s %6s | %5s %8s %8s %6s\n", "job", "steps", "library", "peer", "ratio", "steps", "library", "peer",
            "ratio", "bytes", "library", "peer", "ratio");
     for (size_t s = 0; s < sort_count; s++)
         print_sort(&sorts[s], &worst[sorts[s].n]);
-    print_longest("longest job", 0, &worst[UNKNOWNS]);
-    print_longest("long text, fault 6", MORE_TERMS, &worst[UNKNOWNS]);
+    print_longest("longest job", 0, &worst[FLOODRAFTER_N]);
+    print_longest("long text, fault 6", MORE_TERMS, &worst[FLOODRAFTER_N]);
     print_worst(worst);
     print_all_in_parts();
     print_all_halved();

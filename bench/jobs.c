@@ -11,7 +11,7 @@ static const long one = 65536;
 const struct sort sorts[] = {
     {"poly", 1, 3, 4, 0},   {"poly", 2, 2, 6, 0},   {"poly", 4, 2, 7, 0},   {"poly", 4, 3, 16, 0},
     {"linear", 1, 0, 0, 0}, {"linear", 2, 0, 0, 0}, {"linear", 4, 0, 0, 0}, {"eigen", 1, 0, 0, 0},
-    {"eigen", 2, 0, 0, 0},  {"eigen", 4, 0, 0, 0},  {"eigen", 4, 0, 0, 1},
+    {"eigen", 2, 0, 0, 0},  {"eigen", 4, 0, 0, 0},  {"eigen", 4, 0, 0, 1},  {"poly", 6, 3, 16, 0},
 };
 
 const size_t sort_count = sizeof sorts / sizeof sorts[0];
@@ -45,10 +45,11 @@ static void append_list(struct text *text, const char *key, long value, int coun
         append_number(text, value, k, count);
 }
 
-/* Numbers small beside the diagonal, of both signs and of different lengths. */
+/* Numbers small beside the diagonal, of both signs and of different lengths; from 34 on, which only more than 4 unknowns
+ * have, k begins anew, or they would not be small. */
 static long small(int i, int k)
 {
-    long size = 700 + 311 * k + 97 * i;
+    long size = 700 + 311 * (k % 34) + 97 * i;
     return (i + k) % 2 == 0 ? size : -size;
 }
 
@@ -69,11 +70,27 @@ static int degree_of(int exponents)
     return exponents == 0 ? 0 : exponents % 10 + degree_of(exponents / 10);
 }
 
+/* The greatest exponents of n unknowns that a degree allows: all of it for the first. */
+static int first_exponents(int n, int degree)
+{
+    return degree * power_of_ten(n - 1);
+}
+
+/* Those that come after e, which are not all 0: its last digit over 0 is one less, and the next gets what the degree has left. */
+static int next_exponents(int e, int degree)
+{
+    int unit = 1;
+    while (e / unit % 10 == 0)
+        unit *= 10;
+    e -= unit;
+    return unit == 1 ? e : e + (degree - degree_of(e)) * (unit / 10);
+}
+
 static int exponents_up_to(const struct sort *sort)
 {
-    int count = 0;
-    for (int e = power_of_ten(sort->n) - 1; e >= 0; e--)
-        count += degree_of(e) <= sort->degree;
+    int count = 1;
+    for (int e = first_exponents(sort->n, sort->degree); e > 0; e = next_exponents(e, sort->degree))
+        count++;
     return count;
 }
 
@@ -83,9 +100,7 @@ static void append_equation(struct text *text, const struct sort *sort, int i)
     int others = exponents_up_to(sort) - 2, wanted = sort->terms - 2, seen = 0;
     long sum = 0;
     append(text, "eq=");
-    for (int e = power_of_ten(sort->n) - 1; e > 0; e--) {
-        if (degree_of(e) > sort->degree)
-            continue;
+    for (int e = first_exponents(sort->n, sort->degree); e > 0; e = next_exponents(e, sort->degree)) {
         long coefficient = diagonal(i);
         if (e != power_of_ten(sort->n - 1 - i)) {
             int before = (seen * wanted + i) / others;
@@ -184,25 +199,22 @@ void write_job(const struct sort *sort, enum pace pace, int steps, struct text *
 /* The first `terms` of the terms of degree 3 at most; where there are no more, the last again. */
 static void append_longest_equation(struct text *text, int terms)
 {
-    int e = 3000;
+    int e = first_exponents(FLOODRAFTER_N, 3);
     append(text, "eq=");
     for (int k = 0; k < terms; k++) {
-        append(text, "-4194304:%04d%c", e, k + 1 < terms ? ',' : '\n');
-        if (e > 0)
-            e--;
-        while (degree_of(e) > 3)
-            e--;
+        append(text, "-4194304:%0*d%c", FLOODRAFTER_N, e, k + 1 < terms ? ',' : '\n');
+        e = e > 0 ? next_exponents(e, 3) : e;
     }
 }
 
 void write_longest_job(int extra, struct text *text)
 {
     text->len = 0;
-    append(text, "job=999999999\nkind=poly\nn=4\n");
-    append_list(text, "lo", -262144, 4);
-    append_list(text, "hi", -262144, 4);
-    append_list(text, "inv", -4194304, 16);
+    append(text, "job=999999999\nkind=poly\nn=%d\n", FLOODRAFTER_N);
+    append_list(text, "lo", -262144, FLOODRAFTER_N);
+    append_list(text, "hi", -262144, FLOODRAFTER_N);
+    append_list(text, "inv", -4194304, FLOODRAFTER_N * FLOODRAFTER_N);
     append(text, "steps=1000\n");
-    for (int i = 0; i < 4; i++)
-        append_longest_equation(text, i < 3 ? 16 : 16 + extra);
+    for (int i = 1; i <= FLOODRAFTER_N; i++)
+        append_longest_equation(text, FLOODRAFTER_TERMS_MAX + (i == FLOODRAFTER_N ? extra : 0));
 }

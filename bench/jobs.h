@@ -19,7 +19,8 @@ struct sort {
 extern const struct sort sorts[];
 extern const size_t sort_count;
 
-/* LATE: a zero at the box's lowest corner, which keeps every image from lying strictly inside, and 1/128 of the inverse: hundreds of small cuts, then stalled.
+/* LATE: a zero at the box's lowest corner, which keeps every image from lying strictly inside, and 1/128 of the inverse: hundreds of small cuts, then stalled or, with
+ * 6 unknowns, spent.
  * SOON: a zero inside a small box and the inverse itself, as a typist would hand it in: unique after a step or two.
  * DEEP: LATE with 1/1024 of the inverse: two steps cut so little that halving drops no box and lists as many as its
  * depth allows. */

@@ -6,7 +6,7 @@
 
 #include "floodrafter.h"
 
-/* Document 01, "Numbers and sizes". */
+/* Document 01, "Numbers and sizes", with the n of document 02, P10. */
 enum {
     UNKNOWNS_MAX = FLOODRAFTER_N,
     TERMS_MAX = 16,

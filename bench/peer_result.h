@@ -7,8 +7,8 @@
 
 #include "peer_job.h"
 
-/* Enough for the longest result text, of 111 bytes. */
-enum { RESULT_MAX = 128 };
+/* Enough for the longest result text, of 143 bytes. */
+enum { RESULT_MAX = 160 };
 
 static uint8_t *put_bytes(uint8_t *p, const char *bytes, size_t len)
 {

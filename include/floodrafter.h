@@ -18,13 +18,13 @@ extern "C" {
 #endif
 
 /* The longest text that is taken. A buffer of this size is enough for every answer. */
-#define FLOODRAFTER_TEXT_MAX 2048
+#define FLOODRAFTER_TEXT_MAX 4096
 
 /* The longest sentence beside a fault. */
 #define FLOODRAFTER_SENTENCE_MAX 256
 
 /* The most unknowns of a job: the places of a box. */
-#define FLOODRAFTER_N 4
+#define FLOODRAFTER_N 6
 
 /* The most terms of an equation. */
 #define FLOODRAFTER_TERMS_MAX 16

@@ -110,7 +110,16 @@ static void ask_by_word(const struct asked *r)
     }
 }
 
-/* The header's limits and faults are the library's: "text over 2,048 bytes" is fault 1, "a written pin of n" fault 9. */
+/* The fault of a job text that ends behind its line of n. */
+static uint64_t fault_of_n(int n)
+{
+    char text[32];
+    int len = snprintf(text, sizeof text, "job=1\nkind=poly\nn=%d\n", n);
+    return floodrafter_check_job((const uint8_t *)text, (size_t)len).fault;
+}
+
+/* The header's limits and faults are the library's: a text over FLOODRAFTER_TEXT_MAX bytes is fault 1, n over
+ * FLOODRAFTER_N fault 3, "a written pin of n" fault 9. */
 static void expect_limits(void)
 {
     static const uint8_t text[FLOODRAFTER_TEXT_MAX + 1];
@@ -118,6 +127,8 @@ static void expect_limits(void)
     const struct asked limit = {.request = {.word = "limit"}};
     expect(floodrafter_check_job(text, FLOODRAFTER_TEXT_MAX).fault != FLOODRAFTER_LONG_TEXT, &limit, "the longest text is too long");
     expect(floodrafter_check_job(text, FLOODRAFTER_TEXT_MAX + 1).fault == FLOODRAFTER_LONG_TEXT, &limit, "a longer text is taken");
+    expect(fault_of_n(FLOODRAFTER_N) == FLOODRAFTER_SPELLING, &limit, "the greatest n is too great in a text");
+    expect(fault_of_n(FLOODRAFTER_N + 1) == FLOODRAFTER_UNKNOWNS, &limit, "a greater n is taken in a text");
     floodrafter_answer pinned = floodrafter_check_job((const uint8_t *)last, strlen(last));
     expect(pinned.fault == FLOODRAFTER_PIN && pinned.line == 4, &limit, "a pin line for the last coordinate is taken");
     expect_step_limits(&limit);

@@ -17,7 +17,7 @@ RESULT = (EXAMPLES / "job41.out").read_bytes()
 IMAGE = b"klo=81919\nkhi=103766\n"
 DECIDED = b"verdict=unique\nlo=81919\nhi=103766\n"
 
-MAX_TEXT = 2_048
+MAX_TEXT = 4_096
 MAX_HEADER = 4_096
 
 Ended = namedtuple("Ended", "status out err")

@@ -22,6 +22,7 @@ STEPS = [
     ("image", FAULTY, "fault=8 line=7"),
     ("image 65536 131072", JOB, "klo=81919 khi=103766"),
     ("image 65536,9,-9,999999999999999999 131072,-9,9,-999999999999999999", JOB, "klo=81919 khi=103766"),
+    ("image 65536,9,9,9,9,9 131072,1,1,1,1,1", JOB, "klo=81919 khi=103766"),
     ("image -262144 262144", JOB, "klo=-917494 khi=1004874"),
     ("image -262145 262144", JOB, "fault=4 line=0"),
     ("image -262144 262145", JOB, "fault=4 line=0"),
@@ -40,10 +41,13 @@ STEPS = [
     ("decide 1 0 9 0 9", b"", "verdict=stalled lo=0 hi=9"),
     ("decide 4 0,0,0,0 9,9,9,9 1,1,1,-5 8,8,8,4", b"", "verdict=next lo=1,1,1,0 hi=8,8,8,4"),
     ("decide 4 0 0 0 0", b"", "verdict=stalled lo=0,0,0,0 hi=0,0,0,0"),
+    ("decide 5 0 9,9,9,9,9 1 8,8,8,8,8", b"", "verdict=next lo=1,0,0,0,0 hi=8,8,8,8,8"),
+    ("decide 6 0,0,0,0,0,0 9,9,9,9,9,9 1,1,1,1,1,-5 8,8,8,8,8,4", b"", "verdict=next lo=1,1,1,1,1,0 hi=8,8,8,8,8,4"),
+    ("decide 6 0,0,0,0,0,262145 9 0 0", b"", "fault=4 line=0"),
     ("decide 1 0,1,262145 9,0 1,-999999999999999999 8,5,6,7", b"", "verdict=unique lo=1 hi=8"),
     ("decide 1 -262144 262144 -70368744177664 70368744177664", b"", "verdict=stalled lo=-262144 hi=262144"),
     ("decide 0 0 0 0 0", b"", "fault=3 line=0"),
-    ("decide 5 1 0 1 0", b"", "fault=3 line=0"),
+    ("decide 7 1 0 1 0", b"", "fault=3 line=0"),
     ("decide 18446744073709551617 0 0 0 0", b"", "fault=3 line=0"),
     ("decide 1 -262145 0 1 0", b"", "fault=4 line=0"),
     ("decide 1 1 0 0 70368744177665", b"", "fault=5 line=0"),
@@ -52,9 +56,9 @@ STEPS = [
     ("decide 1 0 9 1 0", b"", "fault=5 line=0"),
 ]
 
-# no list of 1 to 4 numbers, each an optional minus and 1 to 18 digits
-NO_LISTS = ["", ",", "0,", ",0", "0,,0", "0,0,0,0,0", "00", "01", "-", "-0", "-01", "+1", "x", "1.0", "0;0", "0\t",
-            "1000000000000000000", "-1000000000000000000", "0,1000000000000000000"]
+# no list of 1 to 6 numbers, each an optional minus and 1 to 18 digits
+NO_LISTS = ["", ",", "0,", ",0", "0,,0", "0,0,0,0,0,0,0", "00", "01", "-", "-0", "-01", "+1", "x", "1.0", "0;0",
+            "0\t", "1000000000000000000", "-1000000000000000000", "0,1000000000000000000"]
 NO_STEPS = ["image", "image ", "image -1", "image 00", "image x", "Image 0", "image\t0", "image 0\r", "image  0",
             "image 0 0", "image 0 0 ", "image 0 0  0", "image 0 0 0 ", "image 0 0 0 0", "image 0 0 0 0 0",
             "image 0 0 -1", "image 0 0 00", "image 0 0 x", "step 0", "step 0 0 0",

@@ -81,7 +81,7 @@ class Commands(unittest.TestCase):
 
     def test_version(self):
         for word in ("version", "--version"):
-            self.assertEqual(call(word), (0, b"floodrafter 3\n", ""))
+            self.assertEqual(call(word), (0, b"floodrafter 4\n", ""))
 
     def test_help(self):
         page = call("help")

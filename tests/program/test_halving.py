@@ -17,9 +17,9 @@ WIDE_LISTED, TWO_LISTED = ((EXAMPLES / name).read_bytes() for name in ("hinge-wi
 # 1 = 0
 NOTHING = b"job=9\nkind=poly\nn=1\nlo=0\nhi=2\ninv=65536\nsteps=8\neq=65536:0\n"
 NOTHING_LISTED = b"job=9\nboxes=0\n"
-# the widest box of four unknowns, of which nothing is decided: at depth 8 the longest list there is
-OPEN = (b"job=999999999\nkind=poly\nn=4\nlo=%s\nhi=%s\ninv=%s\nsteps=0\n" % tuple(
-    b",".join([end] * count) for end, count in ((b"-262144", 4), (b"262144", 4), (b"0", 16))) + b"eq=\n" * 4)
+# the widest box of six unknowns, of which nothing is decided: at depth 8 the longest list there is
+OPEN = (b"job=999999999\nkind=poly\nn=6\nlo=%s\nhi=%s\ninv=%s\nsteps=0\n" % tuple(
+    b",".join([end] * count) for end, count in ((b"-262144", 6), (b"262144", 6), (b"0", 36))) + b"eq=\n" * 6)
 
 FAR = 999_999_999_999_999_999                # the greatest number that a depth may be spelled as
 NO_NUMBERS = ["", "x", "-", "+1", "01", "-0", "1,1", str(FAR + 1), str(-FAR - 1)]

@@ -67,8 +67,9 @@ JOB_FAULTS = [
     (8, "eq=65536:2;1:1", 2, "term 1 is not followed by a comma" + EQ),
     (9, "", 2, "line 9 is one too many: the line before it is the last"),
     (9, "eq=", 2, "line 9 is one too many: the line before it is the last"),
-    (3, "n=5", 3, "there are 1 to 4 unknowns, not 5"),
-    (3, "n=0", 3, "there are 1 to 4 unknowns, not 0"),
+    (3, "n=7", 3, "there are 1 to 6 unknowns, not 7"),
+    (3, "n=9", 3, "there are 1 to 6 unknowns, not 9"),
+    (3, "n=0", 3, "there are 1 to 6 unknowns, not 0"),
     (1, "job=-1", 4, "the job's number is -1: it lies from 0 to 999999999"),
     (4, "lo=-262145", 4, "number 1 is -262145: ends lie from -262144 to 262144"),
     (5, "hi=262145", 4, "number 1 is 262145: ends lie from -262144 to 262144"),
@@ -93,7 +94,8 @@ RESULT_FAULTS = [
     (4, "lo=1;2", 2, "number 1 has a character that is no digit" + NUMBERS),
     (5, "hi=1,2", 2, "n=1: 1 number expected, 2 found"),
     (6, "lo=1", 2, "line 6 is one too many: the line before it is the last"),
-    (4, "lo=0,0,0,0,0", 3, "there are 1 to 4 unknowns, not 5"),
+    (4, "lo=0,0,0,0,0,0,0", 3, "there are 1 to 6 unknowns, not 7"),
+    (4, "lo=0,0,0,0,0,0,0,0,0,0,0", 3, "there are 1 to 6 unknowns, not 11"),
     (1, "job=-1", 4, "the job's number is -1: it lies from 0 to 999999999"),
     (4, "lo=262145", 4, "number 1 is 262145: ends lie from -262144 to 262144"),
     (5, "hi=-262145", 4, "number 1 is -262145: ends lie from -262144 to 262144"),
@@ -101,7 +103,7 @@ RESULT_FAULTS = [
     (3, "steps=-1", 8, "steps is -1: it lies from 0 to 1000"),
 ]
 
-# jobs of two and three unknowns, with lines that have several numbers
+# jobs of two to six unknowns, with lines that have several numbers
 SEVERAL = [
     ("load.txt", 6, "inv=1,2,3", 2, "n=3: 9 numbers expected, 3 found"),
     ("load.txt", 6, "inv=1,2,3,4,5,6,7,8,4194305", 4,
@@ -116,6 +118,14 @@ SEVERAL = [
     ("hinge-near.txt", 8, "eq=1:2", 2, "n=2: 2 exponents expected in term 1, 1 found"),
     ("hinge-near.txt", 8, "eq=1:02,1:20", 6,
      "term 2 must stand before term 1: terms stand in falling order of their exponents"),
+    ("king-post.txt", 5, "hi=131072,131072,131072,131072,-131073", 5,
+     "unknown 5: the high end -131073 is below the low end -131072"),
+    ("king-post.txt", 12, "row=1,2,3,4,5", 2, "n=5: 6 numbers expected, 5 found"),
+    ("wrist.txt", 4, "lo=0,0,0,0", 2, "n=6: 6 numbers expected, 4 found"),
+    ("wrist.txt", 6, "inv=1,2,3", 2, "n=6: 36 numbers expected, 3 found"),
+    ("wrist.txt", 13, "eq=1:2000", 2, "n=6: 6 exponents expected in term 1, 4 found"),
+    ("wrist.txt", 13, "eq=1:211000", 6, "the exponents of term 1 add up to 4, at most 3 may be"),
+    ("wrist.txt", 14, "eq=", 2, "line 14 is one too many: the line before it is the last"),
 ]
 
 # eigen jobs: of three unknowns, without a pin line and with one, and of one unknown; jobs of other kinds

@@ -12,7 +12,7 @@ HEADER = 4_096                 # bytes of a request's line, its line feed among 
 
 
 def places(spelled):
-    """A list of a request as four places; a missing one is 0."""
+    """A list of a request as six places; a missing one is 0."""
     ends = [int(end) for end in spelled.split(",")]
     return ends + [0] * (MAX_N - len(ends))
 

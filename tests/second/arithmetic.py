@@ -11,7 +11,10 @@ from collections import namedtuple
 
 # "Numbers and sizes".  Each limit stands here once.
 MARK = 65_536                   # "one mark is 1/65,536"
-MAX_N = 4                       # "n: 1 to 4"
+MAX_N = 6                       # document 02, P10: "Raise n to 6 and the text to
+MAX_TEXT = 4_096                # 4,096 bytes, for jobs and results"
+OLD_N = 4                       # before P10: "n: 1 to 4"
+OLD_TEXT = 2_048                # "Text: at most 2,048 bytes"
 MAX_STEPS = 1_000               # "Steps: 0 to 1,000"
 MAX_JOB = 999_999_999           # "Job number: 0 to 999,999,999"
 MAX_END = 262_144               # "Box ends: -262,144 to 262,144"
@@ -19,7 +22,6 @@ MAX_ENTRY = 4_194_304           # "Coefficients, matrix entries, right sides and
 #                                 entries of the inverse: -4,194,304 to 4,194,304"
 MAX_TERMS = 16                  # "A polynomial equation has 0 to 16 terms"
 MAX_DEGREE = 3                  # "each of total degree 0 to 3"
-MAX_TEXT = 2_048                # "Text: at most 2,048 bytes"
 MAX_IMAGE = 2 ** 46             # document 02, P7: "from -2^46 to 2^46"
 MAX_DEPTH = 8                   # document 02, P8: "Depth is 0 to 8"
 MAX_BOXES = 2 ** MAX_DEPTH      # "two to the power of the depth"

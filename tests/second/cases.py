@@ -16,6 +16,7 @@ from jobs import (allowance, job_number, largest_job, monomials, random_job,
                   symmetric_job, zero_job)
 from part_cases import fixed_parts, random_part
 from pin_cases import fixed_pins, random_pin
+from size_cases import fixed_sizes
 from step_cases import fixed_steps, random_step
 from texts import job_text, result_text
 
@@ -82,6 +83,7 @@ def fixed():
         for words in ("halve 0 1", "halve 3 8"):
             yield words, job_text(job)
     yield from fixed_halvings()
+    yield from fixed_sizes()
 
 
 def random_result(dice):
@@ -94,26 +96,21 @@ def random_result(dice):
     return Result(job_number(dice), dice.pick(VERDICTS), allowance(dice), *ends_of(ends))
 
 
-def small_job(dice):
-    """A job for the readers: each n as often, so that every line is met."""
-    return random_job(dice, dice.pick(["poly", *KINDS]), dice.between(1, MAX_N))
-
-
 def random_case(dice):
     """One request."""
     throw = dice.below(100)
     if throw < 42:
         return "solve", job_text(random_job(dice))
     if throw < 46:
-        return "job", job_text(small_job(dice))
+        return "job", job_text(random_job(dice))
     if throw < 78:
-        return dice.pick(["job", "solve"]), damaged(dice, job_text(small_job(dice)))
+        return dice.pick(["job", "solve"]), damaged(dice, job_text(random_job(dice)))
     if throw < 84:
         return "result", result_text(random_result(dice))
     if throw < 98:
         return "result", damaged(dice, result_text(random_result(dice)))
     if throw == 98:
-        return "result", job_text(small_job(dice))
+        return "result", job_text(random_job(dice))
     return "job", result_text(random_result(dice))
 
 

@@ -1,5 +1,6 @@
 """What must hold of every accepted job, tried on random fraction points, of every text
-that arrives in parts, and of every list of a job that is halved.
+that arrives in parts, of every list of a job that is halved, and of every text beside what
+it was before P10.
 
     claims.py [--seed S] [--count K]
 
@@ -29,6 +30,7 @@ that arrives in parts, and of every list of a job that is halved.
 - Halving (document 02, P8): every zero of the starting box lies in a listed box, each box
   listed as unique holds at most one, all lie in the starting box, and there are at most two
   to the power of the depth.
+- Old texts (document 02, P10): see old_claims.py.
 """
 
 import argparse
@@ -37,16 +39,16 @@ from fractions import Fraction
 
 import arithmetic
 from arithmetic import MARK, MAX_END, MAX_IMAGE, MAX_TEXT, ends_of
-from breach import Breach, claim, inside
+from breach import Breach, claim, inside, told
 from dice import Dice
 from halve_claims import try_halvings
 from jobs import pinned_job, random_job, symmetric_job
+from old_claims import try_old
 from part_cases import random_lengths, random_text
 from parts import Reader, cut
 from step_cases import against
 from steps import decision, image_of
 from texts import read_job, job_text
-from walks import Fault
 from zeros import job_with_zeros
 
 
@@ -215,14 +217,6 @@ def try_job(dice, job, zeros, tried):
         tried[f"zeros: starting boxes with two or more, {sort_of(job)}"] += 1
 
 
-def told(entry, *values):
-    """What an entry answers, or the number and the line of its fault."""
-    try:
-        return entry(*values)
-    except Fault as fault:
-        return fault.number, fault.line
-
-
 def try_parts(dice, tried):
     """A job text whole and in parts, and what the reader holds after each part."""
     text, reader, come = random_text(dice), Reader(), b""
@@ -264,7 +258,8 @@ def main():
     parser.add_argument("--seed", type=int, default=1)
     parser.add_argument("--count", type=int, default=1_000)
     given = parser.parse_args()
-    tried = try_claims(given.seed, given.count) + try_halvings(given.seed, given.count)
+    tried = (try_claims(given.seed, given.count) + try_halvings(given.seed, given.count)
+             + try_old(given.seed, given.count))
     for name, times in sorted(tried.items()):
         print(f"{times:7} {name}")
     print("no breach")

@@ -4,7 +4,8 @@ right answer is, the readers of texts.py say."""
 
 import re
 
-from arithmetic import MAX_DEGREE, MAX_END, MAX_ENTRY, MAX_N, MAX_TERMS, MAX_TEXT
+from arithmetic import (MAX_DEGREE, MAX_END, MAX_ENTRY, MAX_N, MAX_TERMS, MAX_TEXT,
+                        OLD_N, OLD_TEXT)
 from jobs import coefficient, monomials
 from spellings import EDGES, LIMITS, ODD_BYTES, ODD_NUMBERS, SPELLINGS, WORDS, WRONG
 
@@ -67,7 +68,7 @@ def beyond_value(dice, line):
     size = MAX_END if key in (b"lo", b"hi") else MAX_ENTRY
     place = dice.pick([0, len(parts) - 1, dice.below(len(parts))])
     parts[place] = b"%d" % dice.pick([size + 1, -size - 1, size, -size, 999_999_999])
-    if key == b"lo" and dice.one_in(4):               # in a result: over 4 numbers
+    if key == b"lo" and dice.one_in(4):               # in a result: over 6 numbers
         parts += [parts[place]] * (MAX_N + 1 - len(parts))
     elif dice.one_in(4):                              # 2 in the same line comes first
         parts = dice.pick([parts + [b"0"], parts + [b"x"], [b"-0"] + parts,
@@ -100,6 +101,12 @@ def wrong_terms(dice, terms, n):
     ])
 
 
+def of_digits(term, count):
+    """A term with so many exponent digits."""
+    c, colon, exponents = term.partition(b":")
+    return c + colon + exponents[:count].ljust(count, b"0")
+
+
 def misspelled_terms(dice, terms, n):
     """Terms that are fault 2, some with a later or an earlier 4 or 6."""
     place = dice.pick([0, len(terms) - 1, dice.below(len(terms))])
@@ -110,6 +117,8 @@ def misspelled_terms(dice, terms, n):
         [b"0:" + b"9" * n] + terms[:place] + [c + b":x"],
         terms[:place] + [c + b":" + exponents + b"0"] + terms[place + 1:],
         terms[:place] + [c + b":" + exponents[1:]],
+        [of_digits(term, MAX_N) for term in terms],
+        [of_digits(term, OLD_N) for term in terms],
         terms[:place] + [c + b":" + exponents[:-1] + dice.pick(ODD_BYTES)],
         terms[:place] + [c + exponents] + terms[place + 1:],
         terms[:place] + [c + b"::" + exponents],
@@ -241,8 +250,9 @@ def every_line(dice, lines):
 
 
 def long_text(dice, lines):
-    """A text of exactly the greatest length, one more, or many more."""
-    length = MAX_TEXT + dice.pick([-1, 0, 0, 0, 1, 1, 1, dice.below(3 * MAX_TEXT)])
+    """A text of exactly the greatest length, now or before P10, one more, or many more."""
+    length = dice.pick([MAX_TEXT, OLD_TEXT])
+    length += dice.pick([-1, 0, 0, 0, 1, 1, 1, dice.below(MAX_TEXT)])
     way = dice.below(4)
     if way == 0:                                      # an extra line
         text = whole(lines)
@@ -256,7 +266,7 @@ def long_text(dice, lines):
         return text[:length - 1] + b"\n"
     # a last `eq` line of many terms, well spelled or not
     text = whole(lines)[:-1] + (b",1:" + b"0" * n) * (length // 4)
-    text = text[:length - n - 13]
+    text = text[:length - 2 * n - 13]
     text = text[:text.rindex(b",")]
     last = dice.pick([b",1:", b",0:", b",x:", b",%d:" % (MAX_ENTRY + 1)]) + b"0" * n
     while len(text) + len(last) + 1 < length:         # digits of one coefficient

@@ -1,8 +1,8 @@
 """Cases of document 02, P8: requests `halve DEPTH ROOM`, a job whose box is halved."""
 
-from arithmetic import MAX_BOXES, MAX_DEPTH, MAX_END, MAX_N, Job
+from arithmetic import MAX_BOXES, MAX_DEPTH, MAX_END, MAX_N, OLD_N, Job, unit
 from damage import damaged, replaced
-from jobs import pinned_job, random_job, symmetric_job, zero_job
+from jobs import pinned_job, random_job, symmetric_job, unknowns, zero_job
 from pin_cases import FLAT_LINES, PIN_AT
 from step_cases import FAR, wrong_jobs
 from texts import job_text
@@ -14,21 +14,10 @@ WIDE = Job(301, "poly", 2, [49_152, -65_536], [81_920, 65_536],
            [16_384, -16_384, 21_845, 21_845], 20,
            [[(65_536, (2, 0)), (65_536, (0, 2)), (-102_400, (0, 0))],
             [(65_536, (2, 0)), (-262_144, (1, 0)), (65_536, (0, 2)), (159_744, (0, 0))]])
-# The same hinge in the equations of examples/hinge-two.txt, which one inverse serves at both;
-# with half of y put before it; with half of x between the two as well.
+# The same hinge in the equations of examples/hinge-two.txt, which one inverse serves at both.
 TWO = Job(305, "poly", 2, [49_152, -57_344], [73_728, 57_344], [32_768, 0, 0, 58_254], 20,
           [[(65_536, (2, 0)), (65_536, (0, 2)), (-102_400, (0, 0))],
            [(65_536, (2, 1)), (-131_072, (1, 1)), (65_536, (0, 3)), (28_672, (0, 1))]])
-THREE = Job(306, "poly", 3, [-40_000, 49_152, -57_344], [40_000, 73_728, 57_344],
-            [65_536, 0, 29_127, 0, 32_768, 0, 0, 0, 58_254], 20,
-            [[(65_536, (1, 0, 0)), (-32_768, (0, 0, 1))],
-             *[[(c, (0, *e)) for c, e in line] for line in TWO.lines]])
-FOUR = Job(307, "poly", 4, [-40_000, 49_152, 20_000, -57_344], [40_000, 73_728, 40_000, 57_344],
-           [65_536, 0, 0, 29_127, 0, 32_768, 0, 0, 0, 16_384, 65_536, 0, 0, 0, 0, 58_254], 20,
-           [[(65_536, (1, 0, 0, 0)), (-32_768, (0, 0, 0, 1))],
-            [(c, (0, x, 0, y)) for c, (x, y) in TWO.lines[0]],
-            [(-32_768, (0, 1, 0, 0)), (65_536, (0, 0, 1, 0))],
-            [(c, (0, x, 0, y)) for c, (x, y) in TWO.lines[1]]])
 # x x x = x: -1, 0 and 1, of which the inverse serves the outer two
 CUBIC = Job(308, "poly", 1, [-98_304], [131_072], [32_768], 20,
             [[(65_536, (3,)), (-65_536, (1,))]])
@@ -51,10 +40,28 @@ WIDTHS = [                          # of boxes in which edges are alike, all or 
     (5, 5), (4, 5), (5, 4), (2, 2), (1, 2), (2, 1), (1, 1), (0, 0), (0, 3),
     (5, 5, 5), (4, 5, 5), (5, 4, 5), (5, 5, 4), (1, 2, 2), (3, 3, 3),
     (9, 9, 9, 9), (3, 9, 9, 9), (9, 3, 9, 9), (9, 9, 3, 9), (9, 9, 9, 3), (3, 3, 9, 9),
-    (1, 1, 1, 2), (1, 2, 1, 2), (2, 1, 1, 1), (1, 1, 1, 1), (0, 0, 0, 2), (8, 4, 2, 1)]
+    (1, 1, 1, 2), (1, 2, 1, 2), (2, 1, 1, 1), (1, 1, 1, 1), (0, 0, 0, 2), (8, 4, 2, 1),
+    (5, 5, 5, 5, 5), (4, 4, 4, 4, 5), (5, 5, 5, 5, 4), (1, 1, 1, 2, 1), (0, 0, 0, 0, 2),
+    (9, 9, 9, 9, 9, 9), (3, 3, 3, 3, 9, 9), (9, 3, 3, 3, 3, 9), (1, 1, 1, 1, 1, 2),
+    (2, 1, 1, 1, 1, 2), (1, 1, 1, 1, 1, 1), (0, 0, 0, 0, 0, 2), (1, 2, 3, 5, 7, 9)]
 # not 0 to 8; in 8, 16 or 32 bits some would be
 DEPTHS = [-1, MAX_DEPTH + 1, -MAX_DEPTH, 10, 64, 255, 256, 257, -255, 2 ** 16, 2 ** 32,
           2 ** 32 + 1, 1 - 2 ** 32, 2 ** 59, FAR, -FAR]
+
+
+def followed(n):
+    """The hinge of TWO with half of y put before it and halves of x between the two, n unknowns
+    in all."""
+    y, halves = n - 1, range(2, n - 1)
+    first, last = [[(c, unit(n, *[1] * e, *[y] * f)) for c, (e, f) in line]
+                   for line in TWO.lines]
+    rows = [{0: 65_536, y: 29_127}, {1: 32_768}, *({1: 16_384, k: 65_536} for k in halves),
+            {y: 58_254}]
+    return Job(310 + n, "poly", n, [-40_000, 49_152, *[20_000] * len(halves), -57_344],
+               [40_000, 73_728, *[40_000] * len(halves), 57_344],
+               [row.get(j, 0) for row in rows for j in range(n)], 20,
+               [[(65_536, unit(n, 0)), (-32_768, unit(n, y))], first,
+                *([(-32_768, unit(n, 1)), (65_536, unit(n, k))] for k in halves), last])
 
 
 def halve(depth, room=MAX_BOXES):
@@ -97,7 +104,7 @@ def small_boxes():
     for widths in WIDTHS:
         lo = [-3 - place for place in range(len(widths))]
         hi = [low + wide for low, wide in zip(lo, widths)]
-        for depth in (1, len(widths) + 1):
+        for depth in (1, min(len(widths), OLD_N) + 1):
             yield halve(depth), job_text(still(lo, hi, depth % 2))
     for low, high in ((-MAX_END, 1 - MAX_END), (-MAX_END, 3 - MAX_END), (MAX_END - 3, MAX_END)):
         yield halve(2), job_text(still([low], [high]))
@@ -105,7 +112,7 @@ def small_boxes():
 
 def every_depth():
     """Jobs at every depth; the list has room for what may be listed, or for more."""
-    jobs = [WIDE, TWO, THREE, FOUR, CUBIC, LOAD, LINE, PAIRS, *ON_CUTS]
+    jobs = [WIDE, TWO, *map(followed, range(3, MAX_N + 1)), CUBIC, LOAD, LINE, PAIRS, *ON_CUTS]
     jobs += [still([-MAX_END], [MAX_END], 1)]
     for number, job in enumerate(jobs):
         for depth in range(MAX_DEPTH + 1):
@@ -113,8 +120,8 @@ def every_depth():
 
 
 def full_lists():
-    """As many boxes as are ever listed, of every n."""
-    for n in range(2, MAX_N + 1):
+    """As many boxes as are ever listed, of few unknowns and of the most."""
+    for n in (2, MAX_N):
         yield halve(MAX_DEPTH), job_text(still([-MAX_END] * n, [MAX_END] * n))
 
 
@@ -132,7 +139,7 @@ def fixed_halvings():
 def small_job(dice):
     """A job that never decides, on a box of a few marks with edges that are often alike."""
     sizes = [dice.below(10), dice.below(10)]
-    lo = [dice.around(9) for _ in range(dice.between(1, MAX_N))]
+    lo = [dice.around(9) for _ in range(unknowns(dice))]
     return still(lo, [low + dice.pick(sizes) for low in lo], dice.below(2))
 
 
@@ -149,12 +156,13 @@ def random_room(dice, depth):
 
 
 def random_halving(dice):
-    """One request.  Of more than two unknowns no depth is great, and where it is great there
-    are few steps, for the time that they would take."""
+    """One request.  The more unknowns the less deep, and where it is deep there are few steps,
+    for the time that they would take."""
     maker = dice.pick([several_job] * 5 + [random_job, random_job, symmetric_job, pinned_job,
                                            small_job])
     job = maker(dice)
-    depth = min(dice.between(0, MAX_DEPTH), 5 if job.n > 2 else MAX_DEPTH)
+    deepest = MAX_DEPTH if job.n <= 2 else 5 if job.n <= OLD_N else 3
+    depth = min(dice.between(0, MAX_DEPTH), deepest)
     job = job._replace(steps=min(job.steps, 60 >> depth // 2))
     text = damaged(dice, job_text(job)) if dice.one_in(8) else job_text(job)
     if dice.one_in(12):

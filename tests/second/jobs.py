@@ -12,8 +12,8 @@ from functools import lru_cache
 from itertools import product as every
 
 from arithmetic import (Job, KINDS, MARK, MAX_N, MAX_STEPS, MAX_JOB, MAX_END,
-                        MAX_ENTRY, MAX_TERMS, MAX_DEGREE, ends_of, equation_over,
-                        equations_of, middle, slope, unit)
+                        MAX_ENTRY, MAX_TERMS, MAX_DEGREE, OLD_N, ends_of,
+                        equation_over, equations_of, middle, slope, unit)
 
 
 def clip(value, size):
@@ -234,10 +234,15 @@ def job_number(dice):
     return dice.pick([0, 1, 41, MAX_JOB, dice.below(1_000), dice.between(0, MAX_JOB)])
 
 
+def unknowns(dice):
+    """How many unknowns; few of them oftener than many, whose texts are longer."""
+    return dice.pick([*range(1, MAX_N + 1), *range(1, OLD_N + 1), 1, 2])
+
+
 def random_job(dice, kind=None, n=None, pin=None):
     """A job that every check accepts; where no pin is asked for, the last is pinned."""
     kind = kind or dice.pick(["poly", "poly", *KINDS])
-    n = n or dice.between(1, MAX_N)
+    n = n or unknowns(dice)
     pin = (pin or n) if kind == "eigen" else 0
     lines = poly_lines(dice, n) if kind == "poly" else row_lines(dice, kind, n)
     reach = dice.pick([9, MARK // 2, MARK, 2 * MARK, MAX_END])
@@ -255,7 +260,8 @@ PINNED = [(n, pin) for n in range(1, MAX_N + 1) for pin in range(1, n)]
 
 def pinned_job(dice):
     """An eigen job with a pin line."""
-    return random_job(dice, "eigen", *dice.pick(PINNED))
+    n = max(2, unknowns(dice))
+    return random_job(dice, "eigen", n, dice.between(1, n - 1))
 
 
 def zero_job(kind, n, pin):
@@ -279,7 +285,7 @@ def largest_job(kind):
 def symmetric_job(dice):
     """A polynomial job on a box round zero, or touching it; its wanted zero lies in the
     box, mostly, and often near 0."""
-    n = dice.pick([1, 1, 2, 2, 3, MAX_N])
+    n = dice.pick([1, 1, 2, 2, 3, OLD_N, 5, MAX_N])
     box, eighths = [round_zero(dice) for _ in range(n)], dice.pick([1, 2, 4, 8, 16])
     z = [dice.between(low, high) * eighths // 8 for low, high in box]
     lines = settle("poly", n, symmetric_lines(dice, n), z)

@@ -4,9 +4,9 @@ A part past the end of the text is empty; what is left after the last one is a p
 """
 
 from answers import HEADER
-from arithmetic import Job, KINDS, MAX_ENTRY, MAX_TEXT
+from arithmetic import Job, MAX_ENTRY, MAX_N, MAX_TEXT, OLD_TEXT
 from damage import damaged
-from jobs import largest_job, pinned_job, random_job
+from jobs import largest_job, pinned_job, random_job, zero_job
 from texts import job_text, joined
 
 POLY = job_text(Job(41, "poly", 1, [-7], [12], [-34], 10, [[(5, (3,)), (-67, (0,))]]))
@@ -14,9 +14,9 @@ LINEAR = job_text(Job(8, "linear", 1, [-2], [3], [45], 6, [[-12, 34]]))
 EIGEN = job_text(Job(6, "eigen", 1, [-9], [10], [23], 4, [[56]], 1))
 PINNED = job_text(Job(7, "eigen", 2, [-1, 2], [3, 45], [6, -7, 8, 9], 1, [[2, -3], [45, 6]], 1))
 UNPINNED = PINNED.replace(b"pin=1\n", b"")
+SIX = job_text(zero_job("poly", MAX_N, 0))
 CROSSED = b"job=5\nkind=poly\nn=1\nlo=3\nhi=2\ninv=9\nsteps=1\neq=\n"
-LARGEST = [job_text(largest_job(kind)) for kind in KINDS]
-LARGEST += [job_text(largest_job("eigen")._replace(pin=1))]
+LARGEST = [job_text(largest_job("poly")), job_text(largest_job("eigen")._replace(pin=1))]
 
 DAMAGED = [
     # the first line is bad, or a later one
@@ -29,10 +29,10 @@ DAMAGED = [
     EIGEN.replace(b"lo=", b"pi=1\nlo="),
     # lines are missing, or the last LF
     POLY.replace(b"n=1\n", b""), POLY[:POLY.index(b"eq")], PINNED[:PINNED.rindex(b"row")],
-    POLY[:-1], PINNED[:-1], PINNED[:PINNED.index(b"\nlo")], b"j",
+    POLY[:-1], PINNED[:-1], PINNED[:PINNED.index(b"\nlo")], SIX[:SIX.rindex(b"eq")], b"j",
     # bytes after the last line
     POLY + b"x", POLY + b"\n", POLY + b"\0", POLY * 2, PINNED + b"row=0,0\n",
-    LARGEST[-1] + b"x",
+    LARGEST[-1] + b"x", SIX + b"eq=\n",
     # other line ends, other bytes
     POLY.replace(b"\n", b"\r\n"), POLY.replace(b"\n", b"\r"), POLY[:-1] + b"\r\n", b"\n" * 9,
     b"\0" * 9, POLY.replace(b"1\n", b"1\0\n", 1), b"\xff" + POLY,
@@ -95,14 +95,13 @@ def of_length(length):
 
 
 def long_texts():
-    """Texts of the greatest length and one more, cut there and elsewhere."""
-    for text in of_length(MAX_TEXT):
-        for lengths in ([MAX_TEXT // 2], [MAX_TEXT - 1], [MAX_TEXT, 0]):
-            yield parts(lengths), text
-    for text in of_length(MAX_TEXT + 1):
-        for lengths in ([8], [MAX_TEXT - 1, 1, 0], [MAX_TEXT], [0, MAX_TEXT + 1, 0]):
-            yield parts(lengths), text
-    yield parts([8] + [MAX_TEXT] * 2), b"\n" * (2 * MAX_TEXT + 9)
+    """Texts of the greatest length, now and before P10, and one more, cut there or elsewhere."""
+    for most in (OLD_TEXT, MAX_TEXT):
+        for length, cuts in ((most, ([most // 2], [most - 1], [most, 0])),
+                             (most + 1, ([most], [8], [most - 1, 1, 0]))):
+            for text, lengths in zip(of_length(length), cuts):
+                yield parts(lengths), text
+    yield parts([8] + [MAX_TEXT] * 2), b"\n" * (MAX_TEXT + 9)
 
 
 def long_lines():

@@ -20,7 +20,7 @@ ONES = Job(12, "eigen", 2, [114_688, 49_152], [147_456, 81_920],
 FLAT = Job(13, "eigen", 2, [49_152, -16_384], [81_920, 16_384],
            [-65_536, 65_536, 0, 65_536], 8, ROWS, 1)
 FLAT_LINES = lines_of(job_text(FLAT))
-LARGEST_LINES = lines_of(job_text(largest_job("eigen")._replace(pin=1)))
+SIX_LINES = lines_of(job_text(zero_job("eigen", MAX_N, 1)))
 PIN_AT = FLAT_LINES.index(b"pin=1")
 
 # in place of FLAT's pin line: another key, or none
@@ -33,20 +33,21 @@ TWO_FAULTS = [
     [(b"pin=1", b"pin=0"), (b"lo=49152", b"lo=x")], [(b"pin=1", b"pin=x"), (b"lo=49152", b"lo=x")],
     [(b"pin=1", b"pin=2"), (b"steps=8", b"steps=-1")],
     [(b"n=2", b"n=0"), (b"pin=1", b"pin=0")], [(b"n=2", b"n=x"), (b"pin=1", b"pin=0")],
-    [(b"n=2", b"n=5"), (b"pin=1", b"pin=x")], [(b"kind=eigen", b"kind=Eig"), (b"pin=1", b"pin=0")],
+    [(b"n=2", b"n=%d" % (MAX_N + 1)), (b"pin=1", b"pin=x")],
+    [(b"kind=eigen", b"kind=Eig"), (b"pin=1", b"pin=0")],
     [(b"job=13", b"job=-1"), (b"pin=1", b"pin=0")], [(b"pin=1\n", b"pin=0\r\n")],
     [(b"pin=1\n", b"pin=1\r\n")], [(b"pin=1", b"pin=0,0")], [(b"pin=1", b"pin=0 ")],
 ]
 
 
 def pinned_examples():
-    """T12's matrix about both eigenvectors, the longest jobs, and a job for every n and
-    every pin."""
+    """T12's matrix about both eigenvectors, a job for every n and every pin, and the longest
+    jobs."""
     yield from (ONES, FLAT)
     for number, (n, pin) in enumerate(PINNED):
         yield random_job(Dice(number), "eigen", n, pin)
-        if n == MAX_N:
-            yield largest_job("eigen")._replace(pin=pin)
+    for pin in (1, MAX_N - 1):
+        yield largest_job("eigen")._replace(pin=pin)
 
 
 def put_in(lines, at, pin):
@@ -83,11 +84,16 @@ def each_line(lines):
 
 
 def one_more(lines):
-    """Bytes after the last line, up to a text's greatest length and one more."""
-    text = whole(lines)
-    for extra in (b"x", b"\n", lines[-1] + b"\n", b"x" * (MAX_TEXT - len(text)),
-                  b"x" * (MAX_TEXT + 1 - len(text))):
-        yield text + extra
+    """Bytes after the last line."""
+    for extra in (b"x", b"\n", lines[-1] + b"\n"):
+        yield whole(lines) + extra
+
+
+def long_texts():
+    """Such bytes up to a text's greatest length, and one more."""
+    text = whole(SIX_LINES)
+    for length in (MAX_TEXT, MAX_TEXT + 1):
+        yield text + b"x" * (length - len(text))
 
 
 def pins_of_others():
@@ -116,12 +122,12 @@ def fixed_pins():
             yield request, text
     for text in every_pin():
         yield "solve", text
-    for lines in (FLAT_LINES, LARGEST_LINES):
+    for lines in (FLAT_LINES, SIX_LINES):
         for text in (*each_line(lines), *one_more(lines)):
             yield "job", text
     others = [replaced(FLAT_LINES, PIN_AT, line) for line in OTHER_LINES]
     for text in (*others, *at_limits(FLAT_LINES, PIN_AT), *every_spelling(FLAT_LINES, PIN_AT),
-                 *moved_pins(), *pins_of_others(), *two_faults()):
+                 *moved_pins(), *pins_of_others(), *two_faults(), *long_texts()):
         yield "job", text
     for request in (f"image {WRONG_BOX}", f"image 0,0 0,-{MAX_END + 1}", "image 1,0 0,0"):
         yield request, whole(FLAT_LINES)

@@ -26,7 +26,7 @@ COMMANDS = ("solve", "job", "result", "image", "step")
 CHUNK = 65_536
 
 # A number in a request: an optional minus, 1 to 18 digits, no leading zero, no minus
-# zero.  A list has 1 to 4 of them, whatever n is.  N, LENGTH and the lengths of parts have
+# zero.  A list has 1 to 6 of them, whatever n is.  N, LENGTH and the lengths of parts have
 # any count of digits; ROOM is at most as many boxes as are ever listed.
 NUMBER = "(?:0|-?[1-9][0-9]{0,17})"
 LIST = f"{NUMBER}(?:,{NUMBER}){{0,{MAX_N - 1}}}"

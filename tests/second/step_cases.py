@@ -9,7 +9,7 @@ from itertools import combinations_with_replacement
 from arithmetic import (Job, MAX_END, MAX_IMAGE, MAX_N, MAX_TEXT, ends_of, equations_of,
                         image, rows_of)
 from damage import damaged
-from jobs import box_around, largest_job, random_job, symmetric_job
+from jobs import box_around, largest_job, random_job, symmetric_job, zero_job
 from texts import job_text, joined
 
 ONE = Job(1, "poly", 1, [0], [9], [30_000], 0, [[(65_536, (3,)), (-9, (0,))]])
@@ -17,14 +17,15 @@ ONE = Job(1, "poly", 1, [0], [9], [30_000], 0, [[(65_536, (3,)), (-9, (0,))]])
 TWO = Job(2, "poly", 2, [0, 0], [65_536, 65_536], [30_000, -9_000, -9_000, 30_000], 8,
           [[(65_536, (2, 0)), (65_536, (1, 1)), (-65_536, (0, 0))],
            [(65_536, (1, 0)), (65_536, (0, 2)), (-65_536, (0, 0))]])
-FOUR = largest_job("poly")
+LARGEST, SIX = largest_job("poly"), zero_job("poly", MAX_N, 0)
 
 FAR = 10 ** 18 - 1                  # the longest number of a request
 E, K = MAX_END, MAX_IMAGE           # the greatest end of a box, and of an image
 E1, K1 = E + 1, K + 1               # and one beyond
+N1 = MAX_N + 1                      # one unknown too many
 
 BOXES = [                           # a job, LO and HI
-    (ONE, f"0,{E1},1,-{FAR} 9,0,0,{FAR}"), (ONE, "0,1 0"),
+    (ONE, f"0,{E1},1,-{FAR},{K1},-1 9,0,0,{FAR},0,-{K1}"), (ONE, "0,1 0"),
     (TWO, "0,0 9,9"), (TWO, f"-{E},-{E} {E},{E}"), (TWO, f"{E},-{E} {E},-{E}"),
     (TWO, f"-{E1},0 0,0"), (TWO, f"0,-{E1} 0,0"), (TWO, f"0,0 {E1},0"), (TWO, f"0,0 0,{E1}"),
     (TWO, f"-{FAR},0 9,9"), (TWO, f"0,{FAR} 9,{FAR}"),
@@ -32,8 +33,9 @@ BOXES = [                           # a job, LO and HI
     (TWO, f"1,0 0,{E1}"), (TWO, f"0,0 0,-{E1}"),                    # 4 before 5
     (TWO, f"0,0,{FAR},1 9,9,-{FAR}"),                               # past n
     (TWO, "5 9"), (TWO, "-5 5,5"), (TWO, "1,1 5"),                  # left out
-    (FOUR, f"-{E},-{E},-{E},-{E} {E},{E},{E},{E}"), (FOUR, "-9,-9 9"),
-    (FOUR, f"0,0,0,-{E1} 9,9,9,9"), (FOUR, "0,0,0,1 9,9,9,0"),
+    (LARGEST, f"{joined([-E] * MAX_N)} {joined([E] * MAX_N)}"), (LARGEST, "-9,-9 9"),
+    (SIX, f"0,0,0,0,0,-{E1} 9,9,9,9,9,9"), (SIX, "0,0,0,0,0,1 9,9,9,9,9,0"),
+    (SIX, "0,0,0,0,-9 9,9,9,9,9"),
 ]
 WRONG_BOX = f"1,0 0,{E1}"
 
@@ -43,25 +45,30 @@ DECISIONS = [                       # N, LO, HI, KLO and KHI
     # one coordinate decides, or all do
     "2 0,0 9,9 1,10 8,11", "2 0,0 9,9 1,0 8,8", "2 0,0 9,9 1,-5 8,20",
     "4 0,0,0,0 9,9,9,9 1,1,1,1 8,8,8,8", "4 0,0,0,0 9,9,9,9 1,1,1,1 8,8,8,9",
-    "4 0,0,0,0 9,9,9,9 1,1,1,-2 8,8,8,-1",
+    "4 0,0,0,0 9,9,9,9 1,1,1,-2 8,8,8,-1", "5 0,0,0,0,0 9,9,9,9,9 1,1,1,1,1 8,8,8,8,8",
+    "5 0,0,0,0,0 9,9,9,9,9 1,1,1,1,0 8,8,8,8,8", "5 0,0,0,0,0 9,9,9,9,9 1,1,1,1,10 8,8,8,8,12",
+    "6 0,0,0,0,0,0 9,9,9,9,9,9 1,1,1,1,1,1 8,8,8,8,8,8",
+    "6 0,0,0,0,0,0 9,9,9,9,9,9 1,1,1,1,1,1 8,8,8,8,8,9",
+    "6 0,0,0,0,0,0 9,9,9,9,9,9 1,1,1,1,1,-2 8,8,8,8,8,-1",
     # at the limits of X and K, and one beyond
     f"2 -{E},-{E} {E},{E} -{K},-{K} {K},{K}", f"1 {E} {E} {K} {K}", f"1 -{E} -{E} -{K} -{K}",
     f"1 -{E1} 0 0 0", f"2 0,0 0,{E1} 0,0 0,0", f"2 0,{E1} 0,{E1} 0,0 0,0", f"1 0 -{E1} 0 0",
     f"1 0 9 -{K1} 0", f"2 0,0 9,9 0,0 0,{K1}", f"2 0,0 9,9 0,{K1} 0,{K1}", f"1 0 9 0 -{K1}",
-    f"1 0 9 0 {FAR}",
+    f"1 0 9 0 {FAR}", f"6 0,0,0,0,0,{E1} 0,0,0,0,0,{E1} 0 0", f"6 0 9 0,0,0,0,0,-{K1} 0",
     # crossed
-    "2 0,9 9,8 0,0 0,0", "2 0,0 9,9 0,9 9,8",
+    "2 0,9 9,8 0,0 0,0", "2 0,0 9,9 0,9 9,8", "6 0,0,0,0,0,1 0 0 0", "6 0 9 0,0,0,0,0,1 9",
     # n; one that 64 bits would make 1
-    "0 0 0 0 0", "5 0 0 0 0", f"{2 ** 64 + 1} 0 0 0 0", f"{10 ** 40} 0 0 0 0",
+    "0 0 0 0 0", f"{N1} 0 0 0 0", f"{2 ** 64 + 1} 0 0 0 0", f"{10 ** 40} 0 0 0 0",
     # of two faults the first: 3, then 4 and 5 of X, then 4 and 5 of K
-    f"5 {E1} {E1} 0 0", "5 1 0 0 0", f"5 0 0 {K1} {K1}", "5 0 0 1 0",
+    f"{N1} {E1} {E1} 0 0", f"{N1} 1 0 0 0", f"{N1} 0 0 {K1} {K1}", f"{N1} 0 0 1 0",
     f"2 1,0 0,{E1} 0,0 0,0", f"2 0,{E1} 0,{E1} 1,0 0,0", f"2 0,1 9,0 {K1},0 {K1},0",
     f"2 0,0 9,9 1,0 0,{K1}",
     # past n: beyond and crossed; apart; inside
     f"1 0,{FAR},1 9,-{FAR},0 1,{K1} 8,0,0,{FAR}", "1 0,0 9,9 1,20 8,30", "1 0,0 9,9 -1,3 9,5",
     f"2 0,0,1,{E1} 9,9,0,0 1,1,-{K1},5 8,8,{K1},4",
+    f"5 0,0,0,0,0,{E1} 9,9,9,9,9,0 1,1,1,1,1,1 8,8,8,8,8,-{K1}",
     # left out
-    "4 0 0 0 0", "2 0,5 9,9 1 8", "2 0,1 9 0 0",
+    "4 0 0 0 0", "6 0 0 0 0", "6 0,0,0,0,0 9 1 8,8", "2 0,5 9,9 1 8", "2 0,1 9 0 0",
 ]
 
 

@@ -5,9 +5,9 @@ from collections import Counter
 
 import halving
 from arithmetic import KINDS, MARK, MAX_BOXES, MAX_DEPTH, MAX_N, equations_of
-from breach import inside
+from breach import inside, told
 from cases import JOB_41, T7, T9, T11
-from claims import told, values_at
+from claims import values_at
 from dice import Dice
 from halve_cases import TWO, WIDE, fixed_halvings, still
 from halve_claims import try_halvings
@@ -181,8 +181,9 @@ class Cases(unittest.TestCase):
             if first.startswith("fault="):
                 met[first, second] += 1
                 continue
-            met[second] += 1
             kind, n = text.decode().split("\n")[1:3]
+            met[second] += 1
+            met[second, n] += 1
             for word in rest[::3]:
                 met[word, depth] += 1
                 met[word, kind, n] += 1
@@ -190,10 +191,12 @@ class Cases(unittest.TestCase):
             for word in ("box=open", "box=unique"):
                 self.assertGreater(met[word, str(depth)], 0, (word, depth))
         for n in range(1, MAX_N + 1):
-            self.assertGreater(met["box=open", "kind=poly", f"n={n}"], 256, n)
+            self.assertGreater(met["box=open", "kind=poly", f"n={n}"], 100, n)
             self.assertGreater(met["box=unique", "kind=poly", f"n={n}"], 2, n)
         for kind in KINDS:
             self.assertGreater(met["box=unique", f"kind={kind}", "n=2"], 2, kind)
+        for n in (1, 2, MAX_N):
+            self.assertGreater(met["boxes=256", f"n={n}"], 0, n)
         for boxes in (0, 1, 2, 3, 4, 128, 256):
             self.assertGreater(met[f"boxes={boxes}"], 0, boxes)
         for fault, line in ((7, 0), (8, 0), (8, 7), (1, 0), (2, 1), (3, 3), (4, 4), (5, 5), (9, 4)):

@@ -8,8 +8,9 @@ import parts
 import walks
 from answers import HEADER, answer
 from arithmetic import KINDS, MAX_N, MAX_TEXT
+from breach import Breach, told
 from cases import JOB_41, cases
-from claims import Breach, told, try_parts
+from claims import try_parts
 from dice import Dice
 from part_cases import PINNED, fixed_parts
 from parts import Reader, cut, read_parts
@@ -153,7 +154,7 @@ class Cases(unittest.TestCase):
 
     def test_every_answer_is_met(self):
         met = Counter()
-        for request, text in cases(1, 3_400):
+        for request, text in cases(1, 3_650):
             if request.startswith("parts "):
                 first, second, *_ = answer(request, text).decode().split("\n")
                 met[f"{first} {second}" if first.startswith("fault=") else second] += 1
@@ -252,7 +253,6 @@ def extra_bytes(lines, rest):
 take, end = Reader.take, Reader.end
 take_line, end_lines = walks.FromLines.take, walks.FromLines.end
 
-
 PARTS = [pair for pair in zip(ASKED, ANSWERED) if pair[0][0].startswith("parts ")]
 
 
@@ -262,10 +262,10 @@ def by_cases():
 
 
 def by_claim():
-    """Whether the claim breaks on a few hundred texts."""
+    """Whether the claim breaks on some thousand texts."""
     dice = Dice(4)
     try:
-        for _ in range(600):
+        for _ in range(1_200):
             try_parts(dice, Counter())
     except Breach:
         return True

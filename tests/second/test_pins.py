@@ -11,7 +11,7 @@ from arithmetic import (MARK, MAX_N, MAX_TEXT, equation_over, equations_of, rows
 from cases import T11, T12, cases
 from damage import damaged, lines_of, replaced, whole
 from dice import Dice
-from jobs import PINNED, largest_job, pinned_job, random_job, zero_job
+from jobs import PINNED, largest_job, random_job, zero_job
 from pin_cases import FLAT, FLAT_LINES, ONES, PIN_AT
 from test_second import TWO, Told
 from test_whole import Slips, caught_by_cases, caught_by_claims
@@ -98,8 +98,8 @@ class Meaning(unittest.TestCase):
         """A pinned job is the job of the swapped matrix with its last coordinate pinned,
         step by step and to the mark."""
         dice, verdicts = Dice(6), set()
-        for _ in range(300):
-            job = pinned_job(dice)
+        for n, pin in PINNED * 30:
+            job = random_job(dice, "eigen", n, pin)
             other, moved = swapped(job)
             steps = [(moved(X), moved(K), verdict, moved(box)) for X, K, verdict, box in trace(job)]
             self.assertEqual(list(trace(other)), steps)
@@ -128,14 +128,15 @@ class Texts(Told):
 
     def test_spellings(self):
         longest = lines_of(job_text(largest_job("eigen")._replace(pin=1)))
-        for spelled in (b"0", b"-1", b"4", b"5", b"9", b"10", b"999999999", b"-999999999"):
+        for spelled in (b"0", b"-1", b"6", b"7", b"9", b"10", b"999999999", b"-999999999"):
             self.told("job", replaced(longest, PIN_AT, b"pin=" + spelled), 9, 4)
         for spelled in (b"", b"-", b"-0", b"00", b"01", b"-01", b"+1", b" 1", b"1 ", b"1,2", b"1,",
                         b"1.0", b"x", b"\xb2", b"1\r", b"1\0", b"1000000000", b"-1000000000"):
             self.told("job", replaced(longest, PIN_AT, b"pin=" + spelled), 2, 4)
-        for line in (b"", b"pin", b"pin 1", b"Pin=1", b" pin=1", b"pin =1", b"n=4", b"hi=0,0,0,0"):
+        for line in (b"", b"pin", b"pin 1", b"Pin=1", b" pin=1", b"pin =1", b"n=6",
+                     b"hi=0,0,0,0,0,0"):
             self.told("job", replaced(longest, PIN_AT, line), 2, 4)
-        for spelled in (b"2", b"3"):
+        for spelled in (b"2", b"3", b"4", b"5"):
             text = replaced(longest, PIN_AT, b"pin=" + spelled)
             self.assertEqual(answer("job", text), text)
 
@@ -186,7 +187,7 @@ class Texts(Told):
             else:
                 self.assertEqual(answer("job", pinned), pinned)
         self.assertLessEqual({(2, line) for line in range(5, MAX_N + 10)}, met)
-        self.assertLessEqual({(4, 5), (4, 6), (5, 6), (4, 7), (8, 8), (4, 9), (4, 12)}, met)
+        self.assertLessEqual({(4, 5), (4, 6), (5, 6), (4, 7), (8, 8), (4, 9), (4, MAX_N + 8)}, met)
 
     def test_values(self):
         """"A pin equal to n means the last and is accepted; other kinds ignore it." """
@@ -215,7 +216,7 @@ class Cases(unittest.TestCase):
 
     def test_every_answer_is_met(self):
         met = set()
-        for request, text in cases(1, 3_400):
+        for request, text in cases(1, 3_650):
             lines = text.split(b"\n")
             if lines[1:2] == [b"kind=eigen"] and b"".join(lines[3:4]).startswith(b"pin="):
                 reply, operation = answer(request, text).split(b"\n"), request.split(" ")[0]

@@ -7,8 +7,8 @@ import arithmetic
 import steps
 from answers import answer
 from arithmetic import MAX_END, MAX_IMAGE, MAX_N
+from breach import told
 from cases import JOB_41, T7, T9, T11
-from claims import told
 from jobs import largest_job
 from second import EXPECTED_LINE
 from steps import decision, image_of, live_box
@@ -74,7 +74,7 @@ class Decisions(unittest.TestCase):
     def test_faults(self):
         """"3 for that n, first", then those of X, "4 beyond the image's range, then 5 for
         its ends crossed"."""
-        n, X4, X5 = [5], [[1, E + 1], [0, 0]], [[1, 0], [0, 0]]
+        n, X4, X5 = [MAX_N + 1], [[1, E + 1], [0, 0]], [[1, 0], [0, 0]]
         K4, K5, right = [[1, K + 1], [0, 0]], [[1, 0], [0, 0]], [[0, 0], [0, 0]]
         for values, fault in [
                 (n + X4 + K4, 3), (n + X5 + K5, 3), ([0] + right + right, 3),
@@ -93,6 +93,7 @@ RIGHT_LINES = [                      # a request's words, its text, its answer
     ("image", TEXT_41, b"klo=81919\nkhi=103766\n"),
     ("image 65536 131072", TEXT_41, b"klo=81919\nkhi=103766\n"),
     ("image 65536,7,-8,999999999999999999 131072,1", TEXT_41, b"klo=81919\nkhi=103766\n"),
+    ("image 65536,9,9,9,9,9 131072,1,1,1,1,1", TEXT_41, b"klo=81919\nkhi=103766\n"),
     ("image 0 -262145,9", TEXT_11, b"fault=4\nline=0\n"),
     ("image -1,-1 9", TEXT_11, b"klo=32768,16384\nkhi=32768,16384\n"),
     ("image 0,1 9", TEXT_11, b"fault=5\nline=0\n"),
@@ -100,14 +101,18 @@ RIGHT_LINES = [                      # a request's words, its text, its answer
     ("decide 1 0 9 1 8", b"", b"verdict=unique\nlo=1\nhi=8\n"),
     ("decide 2 0 9 1 8", b"", b"verdict=next\nlo=1,0\nhi=8,0\n"),
     ("decide 4 0 0 0 0", b"", b"verdict=stalled\nlo=0,0,0,0\nhi=0,0,0,0\n"),
-    ("decide 1 0,1,1,1 9 10 12", b"", b"verdict=none\nlo=0\nhi=9\n"),
+    ("decide 5 0 9,9,9,9,9 1 8,8,8,8,8", b"", b"verdict=next\nlo=1,0,0,0,0\nhi=8,8,8,8,8\n"),
+    ("decide 6 0,0,0,0,0,7 9,9,9,9,9,9 1,1,1,1,1,8 2,2,2,2,2,8", b"",
+     b"verdict=unique\nlo=1,1,1,1,1,8\nhi=2,2,2,2,2,8\n"),
+    ("decide 7 0 0 0 0", b"", b"fault=3\nline=0\n"),
+    ("decide 1 0,1,1,1,1,1 9 10 12", b"", b"verdict=none\nlo=0\nhi=9\n"),
     ("decide 0 0 0 0 0", b"", b"fault=3\nline=0\n"),
     ("decide 1 0 9 0 -999999999999999999", b"", b"fault=4\nline=0\n"),
     ("decide 1 0 9 1 0", b"", b"fault=5\nline=0\n"),
     ("decide " + "9" * 4_078 + " 0 0 0 0", b"", b"fault=3\nline=0\n"),
 ]
-BROKEN_LISTS = ["", ",", "0,", ",0", "0,,0", "0,0,0,0,0", "00", "01", "-", "-0", "-01", "+1",
-                "x", "1.0", "0;0", "\t0", "\xb2", f"{FAR}", f"-{FAR}", f"0,{FAR}"]
+BROKEN_LISTS = ["", ",", "0,", ",0", "0,,0", "0,0,0,0,0,0,0", "00", "01", "-", "-0", "-01",
+                "+1", "x", "1.0", "0;0", "\t0", "\xb2", f"{FAR}", f"-{FAR}", f"0,{FAR}"]
 BROKEN_LINES = [
     "image", "image ", "image -1", "image 00", "image x", "Image 0", "image\t0", "image 0 0",
     "image 0 0 0 0", "image 0 0 0 0 0", "image  0", "image 0 0  0", "image 0 0 0 ",

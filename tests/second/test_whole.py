@@ -8,9 +8,10 @@ import arithmetic
 import texts
 import walks
 from answers import answer
-from arithmetic import MARK, MAX_N, MAX_TEXT
+from arithmetic import MARK, MAX_N, MAX_TEXT, OLD_TEXT
+from breach import Breach
 from cases import cases, write_cases
-from claims import Breach, try_claims
+from claims import try_claims
 from dice import Dice
 from jobs import symmetric_job
 from second import batch
@@ -59,7 +60,7 @@ class Cases(unittest.TestCase):
 
     def test_every_answer_is_met(self):
         met, lengths = set(), set()
-        for request, text in cases(1, 3_400):
+        for request, text in cases(1, 3_650):
             reply = answer(request, text).decode("ascii").split("\n")
             operation = request.split(" ")[0]
             name = "job" if operation == "solve" else operation
@@ -86,7 +87,8 @@ class Cases(unittest.TestCase):
         for kind in arithmetic.KINDS:
             for verdict in arithmetic.VERDICTS:
                 self.assertIn((f"kind={kind}", f"verdict={verdict}"), met)
-        self.assertLessEqual({0, MAX_TEXT - 1, MAX_TEXT, MAX_TEXT + 1}, lengths)
+        about = {most + more for most in (OLD_TEXT, MAX_TEXT) for more in (-1, 0, 1)}
+        self.assertLessEqual({0} | about, lengths)
 
     def test_symmetric_jobs(self):
         """All verdicts are met, and some jobs are decided that stall by plain products."""
@@ -222,7 +224,7 @@ def caught_by_claims():
     return False
 
 
-ASKED = list(cases(1, 2_350))
+ASKED = list(cases(1, 2_600))
 ANSWERED = [answer(*case) for case in ASKED]
 
 

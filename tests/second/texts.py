@@ -4,9 +4,9 @@ from arithmetic import MAX_TEXT, run
 from walks import FromLines, check, demand, walk_job, walk_result
 
 
-def read(walk, text):
+def read(walk, text, max_text):
     """A text (bytes) to values, or a Fault.  "Fault 1 comes first." """
-    demand(len(text) <= MAX_TEXT, 1)
+    demand(len(text) <= max_text, 1)
     *lines, rest = text.decode("latin-1").split("\n")
     source = FromLines(walk)
     for line in lines:
@@ -16,12 +16,12 @@ def read(walk, text):
 
 def read_job(text):
     """A job text."""
-    return read(walk_job, text)
+    return read(walk_job, text, MAX_TEXT)
 
 
 def read_result(text):
     """A result text."""
-    return read(walk_result, text)
+    return read(walk_result, text, MAX_TEXT)
 
 
 def joined(values):

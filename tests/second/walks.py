@@ -191,14 +191,15 @@ def walk_equation(kind, n):
     return row
 
 
-def walk_job():
-    """"Order: job, kind, n, lo, hi, inv, steps, then n lines", and after n the pin."""
+def walk_job(max_n=MAX_N):
+    """"Order: job, kind, n, lo, hi, inv, steps, then n lines", and after n the pin.  n is 1
+    to max_n."""
     job = yield "job", number
     within([job], 0, MAX_JOB)
     kind = yield "kind", word
     demand(kind in KINDS, 2)
     n = yield "n", digit
-    demand(1 <= n <= MAX_N, 3)
+    demand(1 <= n <= max_n, 3)
     pin = yield from walk_pin(kind, n)
     lo = yield "lo", numbers
     demand(len(lo) == n, 2)
@@ -218,19 +219,19 @@ def walk_job():
     return Job(job, kind, n, lo, hi, inv, steps, lines, pin)
 
 
-def walk_result():
-    """The lines of a result: job, verdict, steps, lo, hi."""
+def walk_result(max_n=MAX_N):
+    """The lines of a result: job, verdict, steps, lo, hi.  n is 1 to max_n."""
     job = yield "job", number
     within([job], 0, MAX_JOB)
     verdict = yield "verdict", word
     demand(verdict in VERDICTS, 2)
     steps = yield "steps", number
     demand(0 <= steps <= MAX_STEPS, 8)
-    # "the length of the `lo` list is n: an empty list is fault 2, one of over 4
-    # numbers fault 3, and a `hi` list of another length fault 2"
+    # "the length of the `lo` list is n: an empty list is fault 2, one of over" six
+    # "numbers fault 3, and a `hi` list of another length fault 2"
     lo = yield "lo", numbers
     demand(len(lo) >= 1, 2)
-    demand(len(lo) <= MAX_N, 3)
+    demand(len(lo) <= max_n, 3)
     within(lo, -MAX_END, MAX_END)
     hi = yield "hi", numbers
     demand(len(hi) == len(lo), 2)

@@ -179,7 +179,15 @@ fn answer(op: Op, words: &[u8], text: &[u8], room: &mut [u8; ROOM]) -> usize
 }
 
 // The answer is added once all of its request has come.
-fn ask(fd: i32, have: &mut [u8], out: &mut [u8], h: Hand, op: Op, p: Packet) -> Hand
+fn ask(
+    fd: i32,
+    have: &mut [u8],
+    out: &mut [u8],
+    room: &mut [u8; ROOM],
+    h: Hand,
+    op: Op,
+    p: Packet,
+) -> Hand
     requires { ⌜ InHand h (length (now have)) ⌝ }
     requires { ⌜ outMax ≤ length (now out) ⌝ }
     requires { ⌜ (p .words ≤ p .from) × (p .from ≤ p .to) × (h .at + p .to ≤ h .end) ⌝ }
@@ -189,11 +197,10 @@ fn ask(fd: i32, have: &mut [u8], out: &mut [u8], h: Hand, op: Op, p: Packet) -> 
     let words = at + p.words;
     let from = at + p.from;
     let to = at + p.to;
-    let mut room = [0u8; ROOM];
-    let n = answer(op, &have[at..words], &have[from..to], &mut room);
+    let n = answer(op, &have[at..words], &have[from..to], room);
     let next = pass(fd, have, out, going(to, h.end, h.used), p.passed);
     if next.going {
-        return add(out, next, &room, n);
+        return add(out, next, room, n);
     }
     next
 }
@@ -238,7 +245,7 @@ fn ask_boxes(fd: i32, have: &mut [u8], out: &mut [u8], h: Hand, p: Packet) -> Ha
 }
 
 // What the bytes at hand ask for next.
-fn turn(fd: i32, have: &mut [u8], out: &mut [u8], h: Hand) -> Hand
+fn turn(fd: i32, have: &mut [u8], out: &mut [u8], room: &mut [u8; ROOM], h: Hand) -> Hand
     requires { ⌜ InHand h (length (now have)) ⌝ }
     requires { ⌜ outMax ≤ length (now out) ⌝ }
     ensures { λ r. ⌜ InHand r (length (now (have .entry))) ⌝ }
@@ -250,19 +257,21 @@ fn turn(fd: i32, have: &mut [u8], out: &mut [u8], h: Hand) -> Hand
     match seen {
         Seen::More => more(fd, have, out, h),
         Seen::Bad => bad_request(out, h),
-        Seen::Ask(op) => ask(fd, have, out, h, op, p),
+        Seen::Ask(op) => ask(fd, have, out, room, h, op, p),
         Seen::List => ask_boxes(fd, have, out, h, p),
     }
 }
 
-// Nothing says that the input ends, so the turns are counted down from a number that no run uses up.
+// Nothing says that the input ends, so the turns are counted down from a number that no run uses up. The room of an
+// answer is made once, so that no request clears it.
 pub fn all(fd: i32) -> Outcome {
     let mut have = in_block();
     let mut out = out_block();
+    let mut room = [0u8; ROOM];
     let mut h = going(0, 0, 0);
     let mut turns = u64::MAX;
     while turns > 0 && h.going {
-        h = turn(fd, &mut have, &mut out, h);
+        h = turn(fd, &mut have, &mut out, &mut room, h);
         turns -= 1;
     }
     h.outcome

@@ -13,7 +13,7 @@ use Rattle.jobs.specs.declared.ResultLine.{ResultLine}
 use Rattle.jobs.specs.Lines.{resultNumber}
 use Rattle.checks.specs.Checks.{numberCheck, stepsCheck, lowCheck, highCheck}
 
--- "an empty list (n = 0 in values) is fault 2, one of over 4 numbers fault 3"
+-- "an empty list (n = 0 in values) is fault 2", one of over 6 numbers, since P10, fault 3
 unfoldable pub countCheck : ℕ → Finding
 countCheck n = firstOf (badUnless (leb 1 n) Fault.Spelling) (badUnless (leb n nMax) Fault.Unknowns)
 

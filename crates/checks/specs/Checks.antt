@@ -24,7 +24,7 @@ use Rattle.jobs.specs.Places.{equationAt, rowAt}
 use Rattle.term_checks.specs.Ranges.{oneTo, isWithin, allWithin, allOrdered}
 use Rattle.term_checks.specs.Terms.{goodCoefs, goodTerms}
 
--- "n: 1 to 4"
+-- "n: 1 to" 6, since P10
 abbrev pub goodUnknowns : ℕ → Bool
 goodUnknowns n = oneTo nMax n
 

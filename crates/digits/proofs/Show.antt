@@ -6,7 +6,7 @@ use mathlib.Core.Path.{_≡_, refl, _∙_}
 use mathlib.Core.List.{[], _∷_, _++_}
 use lib.ListN.{length, length-append}
 use lib.Dec.{lit<}
-use lib.IntN.{ℤ, pos, negsuc}
+use lib.IntN.{ℤ, pos, negsuc, natAbs}
 use borrow.Author.Tests.{lt-ltb, le-ltb}
 use Rattle.digits.specs.Bytes.{digit0}
 use Rattle.digits.specs.Show.{showMagnitude, showSigned}
@@ -71,6 +71,12 @@ show-under (suc k) (suc j) m h =
     either m 10
     (λ p. rw (show-low k m p) (omega arith))
     (λ p. rw (show-high k m p, length-append) (omega arith))
+
+-- a minus and as many digits as there are
+pub number-under : (k j : ℕ) (v : ℤ) → natAbs v < 10 ^ suc j → length (showSigned k v) ≤ suc j + 1
+unfolding showSigned
+number-under k j (pos m) h = omega (arith, show-under k j m h)
+number-under k j (negsuc m) h = omega (arith, show-under k j (suc m) h)
 
 -- as many digits as there are show all of them
 pub show-full : (k m : ℕ) → showMagnitude (length (showMagnitude k m)) m ≡ showMagnitude k m

@@ -37,7 +37,7 @@ use Rattle.entries.proofs.PartsTold as parts
 use Rattle.entries.proofs.Texts as texts
 
 -- ---- job_read::read_job, result_read::read_result
--- "1 | text over 2,048 bytes", and no other text; "Fault 1 comes first", with line 0
+-- 1 for a text over 4,096 bytes (P10), and no other text; "Fault 1 comes first", with line 0
 pub read-job-long : (t : List ℕ) → (told (readJob t .status) .number ≡ 1) ↔ (textMax < length t)
 read-job-long = texts.job-long
 

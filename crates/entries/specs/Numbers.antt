@@ -97,8 +97,8 @@ jobRows j =
     ∷ row 3 3 (not (goodUnknowns (j .head .n)))
     ∷ (pinRows (j .head .kind) j ++ boxRows j)
 
--- a result's lines are job, verdict, steps, lo, hi: "an empty list (n = 0 in values) is fault 2, one of over 4
--- numbers fault 3"
+-- a result's lines are job, verdict, steps, lo, hi: "an empty list (n = 0 in values) is fault 2", one of over 6
+-- numbers, since P10, fault 3
 abbrev pub resultRows : Result → List Row
 resultRows r =
     row 1 4 (ltb numberMax (r .number))

@@ -5,7 +5,7 @@ use streams::write_whole;
 
 // One more with each change that may answer a text otherwise than before. 2: a square can't be negative. 3: a pin line.
 pub fn version(fd: i32) -> bool {
-    write_whole(fd, b"floodrafter 3\n")
+    write_whole(fd, b"floodrafter 4\n")
 }
 
 pub fn commands(fd: i32) -> bool {

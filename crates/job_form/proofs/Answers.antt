@@ -24,7 +24,7 @@ use Rattle.job_form.proofs.Reached.{Has, Spelt}
 use Rattle.job_form.proofs.Trips.{laws}
 use Rattle.job_form.proofs.Trips as trips
 
-answer-status : (a : Answer Fault Job) → jobAnswer a .status ≡ statusOf a
+pub answer-status : (a : Answer Fault Job) → jobAnswer a .status ≡ statusOf a
 answer-status (Answer.done j) = refl
 answer-status (Answer.refused f n) = refl
 

@@ -6,6 +6,7 @@ pub mod Back
 pub mod Lows
 pub mod FourthRead
 pub mod Grows
+pub mod Judged
 pub mod Short
 pub mod Trips
 pub mod Answers

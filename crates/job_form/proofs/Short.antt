@@ -1,86 +1,118 @@
--- No job without fault is longer than a text may be.
+-- How long a job without fault is: an end has at most 6 digits, an entry 7, the allowance 4, and n one.
 use Prim.Native.Nat.{ℕ, zero, suc, _+_, _*_, _≤_, _<_}
 use native.Mathlib.Omega.{arith}
-use mathlib.Core.Path.{_≡_, ap, _∙_}
+use mathlib.Core.Path.{_≡_, refl, ap, _∙_}
 use mathlib.Core.List.{List, [], _∷_, _++_, map-append}
-use mathlib.Core.Bool.{Bool, true, false}
+use mathlib.Core.Bool.{Bool, true, false, false≢true}
 use lib.ListN.{length, getD, length-append}
-use lib.IntN.{pos}
-use Rattle.sizes.specs.Sizes.{nMax, termsMax, textMax}
+use lib.IntN.{ℤ, pos}
+use Rattle.sizes.specs.Sizes.{nMax, termsMax, textMax, endMax, entryMax}
 use Rattle.lists.proofs.Tab.{length-tab}
 use Rattle.digits.specs.Number.{digitsMax}
+use Rattle.digits.specs.Show.{showMagnitude}
+use Rattle.digits.proofs.Show.{show-under}
 use Rattle.text.specs.Words.{jobKey, nKey, pinKey, loKey, hiKey, invKey, stepsKey, rowKey}
+use Rattle.text.specs.Lists.{placesMax, showList}
 use Rattle.writing.specs.Wrote
-use Rattle.writing.proofs.Lines.{count-line-short, list-line-short, end-length, end-append, end-none}
+use Rattle.writing.proofs.Lists.{list-under}
+use Rattle.writing.proofs.Lines.{line-long, count-line-short, end-length, end-append, end-none}
 use Rattle.jobs.specs.Places.{rowAt, equationAt}
+use Rattle.jobs.specs.Lines.{pinStands}
 use Rattle.jobs.specs.declared.Kind.{Kind}
 use Rattle.jobs.specs.declared.Job.{Job}
 use Rattle.jobs.specs.declared.JobLine.{JobLine}
 use Rattle.reading.specs.Lines.{bytes}
 use Rattle.reading.specs.NumberLines.{placed}
 use Rattle.reading.specs.Shows.{linesOf, Passed}
-use Rattle.reading.proofs.Walk.{passed-front, passed-rest}
-use Rattle.term_write.specs.ShowTerms.{termWidth}
-use Rattle.term_write.proofs.Terms.{equation-short}
-use Rattle.lines.specs.Texts.{countText, kindText, matrixList}
-use Rattle.checks.proofs.CheckLaws.{unknowns-fine}
-use Rattle.lines.proofs.Found.{found-fine}
-use Rattle.lines.proofs.Rows.{square-fits, matrix-long}
-use Rattle.job_form.specs.JobBytes.{systemText, SpelledLine, lowText, jobLine, pinWritten, lowKinds, highKinds}
+use Rattle.checks.specs.Accepted.{AllWithin, GoodSystem, GoodPin, Accepted}
+use Rattle.term_write.proofs.Terms.{equation-under}
+use Rattle.lines.specs.Texts.{countText, kindText, rowText, matrixList}
+use Rattle.lines.proofs.Checks.{within-below, below-snoc}
+use Rattle.lines.proofs.Rows.{square-fits, matrix-long, matrix-within}
+use Rattle.job_form.specs.JobBytes.{systemText, lowText, jobLine, pinWritten, lowKinds, highKinds}
 use Rattle.job_form.specs.JobBytes.{inverseKinds, boxKinds, systemKinds, jobPrior, jobShows, jobBytes}
-use Rattle.job_form.proofs.Order.{passed-each}
-use Rattle.job_form.proofs.System.{said-spelled}
-use Rattle.job_form.proofs.Lows.{pinFirst, low-lines-are, passed-fine}
+use Rattle.job_form.proofs.Lows.{pinFirst, low-lines-are}
+use Rattle.job_form.proofs.Judged.{passed-accepted}
 
--- a line of n + 1 numbers
-abbrev rowWidth : ℕ
-rowWidth = 6 + (digitsMax + 2) * (2 + nMax)
+-- lo or hi: a comma, a minus and 6 digits for each number
+abbrev endsWidth : ℕ
+endsWidth = 4 + 8 * nMax
 
--- the longest lines of a system, an `eq` and a `row` line together
+-- the longest line of a system, `eq`: a comma, a minus, 7 digits, a colon and the exponents for each term
 abbrev systemWidth : ℕ
-systemWidth = 5 + termWidth * termsMax + rowWidth
+systemWidth = 4 + (10 + nMax) * termsMax
 
--- the lines of the pin and of lo, and those up to lo
-abbrev pinWidth : ℕ
-pinWidth = 5 + digitsMax + 4 + (digitsMax + 2) * nMax
-
+-- job, kind, n, the pin and lo
 abbrev lowWidth : ℕ
-lowWidth = 3 * (7 + digitsMax) + pinWidth
+lowWidth = 14 + 12 + 4 + 6 + endsWidth
 
-word-short : (k : Kind) → length (Wrote.line (kindText k)) ≤ 6 + digitsMax + 1
+-- with hi, inv, steps and the system
+abbrev pub jobWidth : ℕ
+jobWidth = lowWidth + endsWidth + (5 + 9 * placesMax) + 11 + systemWidth * nMax
+
+word-short : (k : Kind) → length (Wrote.line (kindText k)) ≤ 12
 unfolding Wrote.line
 word-short Kind.Poly = omega arith
 word-short Kind.Linear = omega arith
 word-short Kind.Eigen = omega arith
 
-kind-short : (k : Kind) (j : Job) (i : ℕ) → j .head .n ≤ nMax → SpelledLine k j i
-    → length (Wrote.line (systemText k j i)) ≤ systemWidth
-unfolding systemText
-kind-short Kind.Poly j i h s = omega (arith, equation-short (j .head .n) (equationAt (j .system .eqs) i) h (s .few))
-kind-short Kind.Linear j i h s =
-    let n = j .head .n in
-    let row = placed n n (rowAt (j .system .rows) i) in
-    let right = getD (j .system .right) i (pos 0) in
-    omega (
-      arith,
-      list-line-short digitsMax rowKey (row ++ (right ∷ [])),
-      length-append row (right ∷ []),
-      length-tab (pos 0) n n (λ k. getD (rowAt (j .system .rows) i) k (pos 0)),
-    )
-kind-short Kind.Eigen j i h s =
-    let n = j .head .n in
-    omega (
-      arith,
-      list-line-short digitsMax rowKey (placed n n (rowAt (j .system .rows) i)),
-      length-tab (pos 0) n n (λ k. getD (rowAt (j .system .rows) i) k (pos 0)),
-    )
+-- a pin that is written is one digit
+pin-small : (k : Kind) (n pin : ℕ) → n ≤ nMax → GoodPin k n pin → pinStands k n pin ≡ true → pin < 10
+pin-small Kind.Poly n pin few good w = absurd (false≢true w)
+pin-small Kind.Linear n pin few good w = absurd (false≢true w)
+pin-small Kind.Eigen n pin few good w = omega (arith, good .1)
 
 ends-append : (a b : List (List ℕ)) → length (bytes (a ++ b)) ≡ length (bytes a) + length (bytes b)
 ends-append a b = ap length (end-append a b) ∙ length-append (bytes a) (bytes b)
 
-module _ (j : Job) (few : j .head .n ≤ nMax)
-    (spelled : (i : ℕ) → i < j .head .n → SpelledLine (j .head .kind) j i) where
-  system-short : (m : ℕ) → m ≤ j .head .n → length (bytes (linesOf jobShows j (systemKinds m))) ≤ systemWidth * m
+module _ (j : Job) (a : Accepted j) where
+  abbrev n : ℕ
+  n = j .head .n
+
+  -- a line of n ends
+  ends-short : (key : List ℕ) (xs : List ℤ) → AllWithin xs n endMax
+      → length (Wrote.line (rowText key n xs)) ≤ length key + 8 * nMax + 1
+  ends-short key xs w =
+      rw (line-long key (showList (placed n n xs)))
+      (omega (
+        arith,
+        list-under digitsMax 5 (placed n n xs) (within-below n xs 6 endMax (omega arith) w),
+        length-tab (pos 0) n n (λ i. getD xs i (pos 0)),
+        a .few,
+      ))
+
+  kind-short : (k : Kind) (i : ℕ) → GoodSystem k j i → length (Wrote.line (systemText k j i)) ≤ systemWidth
+  unfolding systemText
+  kind-short Kind.Poly i g =
+      omega (
+        arith,
+        equation-under n (equationAt (j .system .eqs) i) 6 (a .few) (λ k l. omega (arith, g .size k l .abs)),
+        g .few,
+      )
+  kind-short Kind.Linear i g =
+      let row = placed n n (rowAt (j .system .rows) i) in
+      let right = getD (j .system .right) i (pos 0) in
+      rw (line-long rowKey (showList (row ++ (right ∷ []))))
+      (omega (
+        arith,
+        list-under digitsMax 6 (row ++ (right ∷ []))
+            (below-snoc 7 row right (within-below n (rowAt (j .system .rows) i) 7 entryMax (omega arith) (g .0))
+            (omega (arith, g .1 .abs))),
+        length-append row (right ∷ []),
+        length-tab (pos 0) n n (λ k. getD (rowAt (j .system .rows) i) k (pos 0)),
+        a .few,
+      ))
+  kind-short Kind.Eigen i g =
+      let row = placed n n (rowAt (j .system .rows) i) in
+      rw (line-long rowKey (showList row))
+      (omega (
+        arith,
+        list-under digitsMax 6 row (within-below n (rowAt (j .system .rows) i) 7 entryMax (omega arith) g),
+        length-tab (pos 0) n n (λ k. getD (rowAt (j .system .rows) i) k (pos 0)),
+        a .few,
+      ))
+
+  system-short : (m : ℕ) → m ≤ n → length (bytes (linesOf jobShows j (systemKinds m))) ≤ systemWidth * m
   unfolding systemKinds
   system-short zero h = rw end-none (omega arith)
   system-short (suc m) h =
@@ -91,40 +123,39 @@ module _ (j : Job) (few : j .head .n ≤ nMax)
         ends-append (linesOf jobShows j (systemKinds m)) (l ∷ []),
         end-length l [],
         end-none,
-        kind-short (j .head .kind) j m few (spelled m h),
+        kind-short (j .head .kind) m (a .system m h),
         system-short m (omega arith),
       ))
 
   -- the lines up to lo: job, kind, n, lo and perhaps the pin
   low-short : length (bytes (linesOf jobShows j (lowKinds j))) ≤ lowWidth
-  low-short = rw (low-lines-are j) (go (pinWritten j))
+  low-short = rw (low-lines-are j) (go (pinWritten j) refl)
     where
-      n : ℕ
-      n = j .head .n
+      count : (key : List ℕ) (m : ℕ) → m < 10 → length (Wrote.line (countText key m)) ≤ length key + 2
+      count key m h = rw (line-long key (showMagnitude digitsMax m)) (omega (arith, show-under digitsMax 0 m h))
 
-      lo : length (Wrote.line (lowText j)) ≤ 4 + (digitsMax + 2) * nMax
-      lo =
-          omega (
-            arith,
-            list-line-short digitsMax loKey (placed n n (j .ends .lo)),
-            length-tab (pos 0) n n (λ i. getD (j .ends .lo) i (pos 0)),
-          )
+      number : length (Wrote.line (countText jobKey (j .head .number))) ≤ 14
+      number = omega (arith, count-line-short jobKey (j .head .number))
 
-      pin : (b : Bool) → length (bytes (pinFirst b (countText pinKey (j .head .pin)) (lowText j))) ≤ pinWidth
-      pin true =
-          rw (end-length _ _, end-length _ _, end-none) (omega (arith, count-line-short pinKey (j .head .pin), lo))
-      pin false = rw (end-length _ _, end-none) (omega (arith, lo))
+      pin : (b : Bool) → pinWritten j ≡ b
+          → length (bytes (pinFirst b (countText pinKey (j .head .pin)) (lowText j))) ≤ 6 + endsWidth
+      pin true w =
+          let small = pin-small (j .head .kind) n (j .head .pin) (a .few) (a .pin) w in
+          rw (end-length _ _, end-length _ _, end-none)
+          (omega (arith, count pinKey (j .head .pin) small, ends-short loKey (j .ends .lo) (a .low)))
+      pin false w = rw (end-length _ _, end-none) (omega (arith, ends-short loKey (j .ends .lo) (a .low)))
 
-      go : (b : Bool) → length (bytes (countText jobKey (j .head .number) ∷ kindText (j .head .kind) ∷ countText nKey n
+      go : (b : Bool) → pinWritten j ≡ b
+          → length (bytes (countText jobKey (j .head .number) ∷ kindText (j .head .kind) ∷ countText nKey n
           ∷ pinFirst b (countText pinKey (j .head .pin)) (lowText j))) ≤ lowWidth
-      go b =
+      go b w =
           rw (end-length _ _, end-length _ _, end-length _ _)
           (omega (
             arith,
-            count-line-short jobKey (j .head .number),
+            number,
             word-short (j .head .kind),
-            count-line-short nKey n,
-            pin b,
+            count nKey n (omega (arith, a .few)),
+            pin b w,
           ))
 
   -- one line more
@@ -140,9 +171,24 @@ module _ (j : Job) (few : j .head .n ≤ nMax)
         end-none,
       ))
 
-  job-short : length (jobBytes j) ≤ textMax
-  job-short =
-      let n = j .head .n in
+  inverse-short : length (Wrote.line (jobLine JobLine.Inv j)) ≤ 5 + 9 * placesMax
+  inverse-short =
+      rw (line-long invKey (showList (matrixList (j .inv) n)))
+      (omega (
+        arith,
+        list-under digitsMax 6 (matrixList (j .inv) n)
+            (matrix-within n (a .some) (a .few) (j .inv) 7 (omega arith) (a .inverse)),
+        matrix-long (j .inv) n,
+        square-fits n (a .few),
+      ))
+
+  steps-short : length (Wrote.line (jobLine JobLine.Steps j)) ≤ 11
+  steps-short =
+      rw (line-long stepsKey (showMagnitude digitsMax (j .steps)))
+      (omega (arith, show-under digitsMax 3 (j .steps) (omega (arith, a .steps))))
+
+  pub job-width : length (jobBytes j) ≤ jobWidth
+  job-width =
       rw (map-append (λ k. jobShows .line k j) (boxKinds j) (systemKinds n))
       (omega (
         arith,
@@ -151,22 +197,13 @@ module _ (j : Job) (few : j .head .n ≤ nMax)
         next-long (highKinds j) JobLine.Inv,
         next-long (lowKinds j) JobLine.Hi,
         low-short,
-        list-line-short digitsMax hiKey (placed n n (j .ends .hi)),
-        length-tab (pos 0) n n (λ i. getD (j .ends .hi) i (pos 0)),
-        list-line-short digitsMax invKey (matrixList (j .inv) n),
-        matrix-long (j .inv) n,
-        square-fits n few,
-        count-line-short stepsKey (j .steps),
+        ends-short hiKey (j .ends .hi) (a .high),
+        inverse-short,
+        steps-short,
         system-short n (omega arith),
+        a .few,
       ))
 
+-- no job without fault is longer than a text may be
 pub passed-short : (j : Job) → Passed jobShows (jobPrior JobLine.End j) j → length (jobBytes j) ≤ textMax
-passed-short j p =
-    let n = j .head .n in
-    let box = passed-front jobShows j (boxKinds j) (systemKinds n) p in
-    let high = passed-front jobShows j (highKinds j) (JobLine.Inv ∷ [])
-    (passed-front jobShows j (inverseKinds j) (JobLine.Steps ∷ []) box) in
-    let low = passed-fine j (passed-front jobShows j (lowKinds j) (JobLine.Hi ∷ []) high) in
-    job-short j (unknowns-fine n (low .unknowns) .1) (λ i l.
-    said-spelled (j .head .kind) j i
-    (found-fine _ (passed-each j n (passed-rest jobShows j (boxKinds j) (systemKinds n) p) i l)))
+passed-short j p = omega (arith, job-width j (passed-accepted j p))

@@ -111,7 +111,7 @@ module _ (t : List ℕ) (j : Job) (a : ℕ) (h : a ≤ length t) {m : ℕ} {st :
         (λ x. record { kind = JobLine.System 0; value = withSteps j x }) refl
         (count-tells _ _ e) q (w ∙ ap (jobNumber JobLine.Steps) (sym p))
 
--- "n: 1 to 4"
+-- "n: 1 to" 6
 pub unknowns-whole : (t : List ℕ) (a m : ℕ) {st : Status} {r : SmallLine} {head : Head}
     → r ≡ smallAt (said unknownsOf t a) (onward t a) → st ≡ onLine (r .found) m → head .n ≡ r .small → isBad st ≡ false
     → Whole head

@@ -21,7 +21,7 @@ use Rattle.job_read.specs.declared.SystemAt.{SystemAt}
 use Rattle.job_read.specs.declared.LineEnd.{LineEnd}
 use Rattle.job_read.specs.declared.SystemEnd.{SystemEnd}
 
--- "n: 1 to 4"
+-- "n: 1 to" 6
 pub record Whole (head : Head) : Type 0 where
   pub some : 0 < head .n
   pub few : head .n ≤ nMax

@@ -92,16 +92,16 @@ module _ (n : ℕ) (xs : List ℤ) where
   unfolding rowCheck
   row-small e = tested-small entryMax (omega arith) (unless-fine _ _ e)
 
-small-snoc : (xs : List ℤ) (v : ℤ) → Small xs → natAbs v < 10 ^ digitsMax → Small (xs ++ (v ∷ []))
+pub below-snoc : (k : ℕ) (xs : List ℤ) (v : ℤ) → Below k xs → natAbs v < 10 ^ k → Below k (xs ++ (v ∷ []))
 unfolding Below
-small-snoc [] v s h = (h, tt)
-small-snoc (x ∷ xs) v s h = (s .0, small-snoc xs v (s .1) h)
+below-snoc k [] v s h = (h, tt)
+below-snoc k (x ∷ xs) v s h = (s .0, below-snoc k xs v (s .1) h)
 
 pub sided-small : (n : ℕ) (row : List ℤ) (right : ℤ) → sidedCheck n row right ≡ Finding.Fine
     → Small (placed n n row ++ (right ∷ []))
 unfolding sidedCheck
 sided-small n row right e =
-    small-snoc (placed n n row) right (row-small n row (fine-first _ _ e))
+    below-snoc digitsMax (placed n n row) right (row-small n row (fine-first _ _ e))
     (omega (arith, is-within right entryMax (unless-fine _ _ (fine-next _ _ e)) .abs))
 
 pub number-spelled : (m : ℕ) → numberCheck m ≡ Finding.Fine → m < 10 ^ digitsMax

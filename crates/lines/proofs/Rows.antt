@@ -1,5 +1,5 @@
 -- The numbers of a line in the rows of a matrix, and back.
-use Prim.Native.Nat.{ℕ, suc, _+_, _*_, _/_, _%_, _≤_, _<_}
+use Prim.Native.Nat.{ℕ, suc, _+_, _*_, _/_, _%_, _^_, _≤_, _<_}
 use native.Mathlib.Omega.{arith}
 use native.Mathlib.Nat.{mul-le-mul, suc-mul, mod-lt, div-lt-iff-lt-mul, div-eq-of-lt, mod-eq-of-lt}
 use native.Mathlib.Nat.{mul-add-div-right, mul-add-mod-self-right, add-zero, div-add-mod'}
@@ -11,7 +11,7 @@ use Rattle.sizes.specs.Sizes.{nMax, entryMax}
 use Rattle.lists.proofs.All.{all-each, all-cong}
 use Rattle.lists.proofs.Tab.{length-tab, getD-tab, tab-cong}
 use Rattle.digits.specs.Number.{digitsMax}
-use Rattle.text.specs.Lists.{placesMax, Small}
+use Rattle.text.specs.Lists.{placesMax, Below, Small}
 use Rattle.faults.specs.declared.Fault.{Fault}
 use Rattle.faults.specs.declared.Finding.{Finding}
 use Rattle.faults.specs.Checks.{badUnless}
@@ -119,13 +119,15 @@ module _ (n : ℕ) (some : 0 < n) (few : n ≤ nMax) where
         ap (λ (xs : List ℤ). allWithin xs n (pos entryMax)) (row-at rows n n i l few)
         ∙ within-live nMax n few (rowAt rows i) (pos entryMax)))
 
-    pub matrix-within : ((i : ℕ) → i < n → AllWithin (rowAt rows i) n entryMax) → Small (matrixList rows n)
+    pub matrix-within : (d : ℕ) → entryMax < 10 ^ d → ((i : ℕ) → i < n → AllWithin (rowAt rows i) n entryMax)
+        → Below d (matrixList rows n)
     unfolding matrixList entryOf
-    matrix-within w =
-        below-tab digitsMax (n * n) (entryOf rows n) (λ k l.
+    matrix-within d h w =
+        below-tab d (n * n) (entryOf rows n) (λ k l.
         omega (arith, w (k / n) (line-live k l) (k % n) (column-live k) .abs))
 
     pub matrix-small : inverseCheck n rows ≡ Finding.Fine → Small (matrixList rows n)
     unfolding inverseCheck goodMatrix
     matrix-small e =
-        matrix-within (λ i l. all-within (rowAt rows i) n entryMax (all-each _ n i l (unless-fine _ _ e)))
+        matrix-within digitsMax (omega arith) (λ i l.
+        all-within (rowAt rows i) n entryMax (all-each _ n i l (unless-fine _ _ e)))

@@ -20,7 +20,7 @@ use Rattle.checks.specs.Checks.{unknownsCheck}
 use Rattle.term_text.specs.Terms.{oneDigit}
 use Rattle.digits.specs.Digits.{isDigit, allDigits}
 use Rattle.term_round.proofs.WriteBack.{digit-is}
-use Rattle.reading.specs.Got.{after, passing, Told}
+use Rattle.reading.specs.Got.{Got, after, passing, Told}
 use Rattle.reading.proofs.Told.{not-false, told-got, told-unless, told-map, told-passing}
 use Rattle.lines.specs.Found.{found}
 use Rattle.lines.specs.Lines.{digitIs, unknownsOf}
@@ -31,12 +31,16 @@ one-digit : (n : ℕ) → n < 10 → oneDigit ((digit0 + n) ∷ []) ≡ true
 unfolding oneDigit allDigits allB isDigit
 one-digit n h = rw (le-leb digit0 (digit0 + n) (omega arith), le-leb (digit0 + n) digit9 (omega arith))
 
-pub unknowns-back : (n : ℕ) → n < 10
-    → unknownsOf (countText nKey n) ≡ after (found (unknownsCheck n)) (λ u. n)
-unfolding unknownsOf passing digitIs
-unknowns-back n h =
+pub digit-back : (n : ℕ) → n < 10 → digitIs (bodyOf nKey (countText nKey n)) ≡ Got.got n
+unfolding digitIs
+digit-back n h =
     let e : digit0 + n - digit0 ≡ n = omega arith in
     rw (body-own nKey (showMagnitude digitsMax n), show-low 8 n h, one-digit n h, e)
+
+pub unknowns-back : (n : ℕ) → n < 10
+    → unknownsOf (countText nKey n) ≡ after (found (unknownsCheck n)) (λ u. n)
+unfolding unknownsOf passing
+unknowns-back n h = rw (digit-back n h)
 
 -- one digit is written as it stood
 digit-text : (b : List ℕ) → oneDigit b ≡ true → showMagnitude digitsMax (getD b 0 0 - digit0) ≡ b

@@ -47,7 +47,7 @@ stepsOf l = countLine Fault.Spelling Fault.Steps stepsKey stepsMax l
 unfoldable pub digitIs : List ℕ → Got Fault ℕ
 digitIs b = refuse (not (oneDigit b)) Fault.Spelling (Got.got (getD b 0 0 - digit0))
 
--- n=: "`n` is one digit"; "n not 1 to 4" 3
+-- n=: "`n` is one digit"; 3 where it is not 1 to 6, since P10
 unfoldable pub unknownsOf : List ℕ → Got Fault ℕ
 unknownsOf l = passing (digitIs (bodyOf nKey l)) (λ n. found (unknownsCheck n))
 
@@ -91,7 +91,8 @@ numbersOf key places count l = rowLine Fault.Spelling key places count l
 unfoldable pub lowOf : ℕ → List ℕ → Got Fault (List ℤ)
 lowOf n l = passing (numbersOf loKey nMax n l) (λ lo. found (lowCheck n lo))
 
--- lo= of a result: "the length of the `lo` list is n: an empty list is fault 2, one of over 4 numbers fault 3"
+-- lo= of a result: "the length of the `lo` list is n: an empty list is fault 2", one of over 6 numbers, since P10,
+-- fault 3
 unfoldable pub anyLowOf : List ℕ → Got Fault Listed
 anyLowOf l = passing (listLine Fault.Spelling loKey nMax l) (λ x. found (countedCheck (x .count) (x .row)))
 

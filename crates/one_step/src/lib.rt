@@ -73,8 +73,16 @@ fn image_box(eqs: [Equation; N], c: [[i64; N]; N], x: [Interval; N], n: usize) -
     ensures { λ r. ⌜ r ≡ imageBox n (equationAt eqs) (entryAt c) x ⌝ }
 {
     let m = step::middles(x, n);
-    let f = slopes::values_over(eqs, m, n);
-    let s = slopes::slopes_over(eqs, x, n);
+    let mut f = [Interval { lo: 0, hi: 0 }; N];
+    let mut s = [[Interval { lo: 0, hi: 0 }; N]; N];
+    for i in 0..n {
+        let q = eqs[i];
+        let o = slopes::equation_over(q, m, x, n);
+        let value = o.value;
+        let row = o.slopes;
+        f[i] = value;
+        s[i] = row;
+    }
     step::image(c, x, m, f, s, n)
 }
 
@@ -87,7 +95,7 @@ fn image_ends(j: Job, e: Ends) -> Ends
     let eqs = systems::equations(j);
     let c = values::matrix(inv, n);
     let x = values::box_of(e, n);
-    let k = image_box(eqs, c, x, n);
+    let k = image_box(eqs, c, x, step::bounded(n));
     values::ends_of(k, n)
 }
 

@@ -10,3 +10,4 @@ pub mod Refused
 pub mod Walk
 pub mod Trips
 pub mod NumberLines
+pub mod Narrower

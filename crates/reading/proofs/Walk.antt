@@ -16,7 +16,7 @@ use Rattle.reading.proofs.Decided.{stays-bad}
 use Rattle.reading.proofs.Reading.{refused-done}
 use Rattle.reading.proofs.Told.{fault-got}
 
--- lines without fault, and more of them
+-- lines without fault, and more of them; lines without a line feed
 module _ {F L X : Type 0} (w : Shows F L X) (v : X) where
   pub passed-join : (a b : List L) → Passed w a v → Passed w b v → Passed w (a ++ b) v
   passed-join [] b p q = q
@@ -34,6 +34,11 @@ module _ {F L X : Type 0} (w : Shows F L X) (v : X) where
   pub passed-rest : (a b : List L) → Passed w (a ++ b) v → Passed w b v
   passed-rest [] b p = p
   passed-rest (k ∷ a) b p = passed-rest a b (p .1)
+
+  pub all-above : ((k : L) → Above lineFeed (w .line k v)) → (ks : List L) → AllAbove lineFeed (linesOf w v ks)
+  unfolding AllAbove
+  all-above h [] = tt
+  all-above h (k ∷ ks) = (h k, all-above h ks)
 
 module _ {F L X : Type 0} (g : Form F L X) (w : Shows F L X) (q : X) where
   -- these kinds follow one another, from k on to the end
@@ -91,11 +96,6 @@ module _ {F L X : Type 0} (g : Form F L X) (w : Shows F L X) (q : X) where
           go (Got.fault f) e (inr all) on =
               rw (left, law k h left .says (all k h), e, stays-bad g (linesOf w q ks) f (g .number k (w .upto k q)))
 
-      all-above : ((k : L) → Above lineFeed (w .line k q)) → (ks : List L) → AllAbove lineFeed (linesOf w q ks)
-      unfolding AllAbove
-      all-above h [] = tt
-      all-above h (k ∷ ks) = (h k, all-above h ks)
-
       pub read-shown : w .upto (g .first) q ≡ g .none → Has (g .first) → Tied (g .first) (w .prior (w .end) q)
           → ((k : L) → Above lineFeed (w .line k q)) → Ready (w .prior (w .end) q)
           → length (bytes (shown w q)) ≤ g .most
@@ -104,6 +104,6 @@ module _ {F L X : Type 0} (g : Form F L X) (w : Shows F L X) (q : X) where
       read-shown b h tied plain r m =
           rw (
             le-ltb (g .most) (0 + length (bytes (shown w q))) (omega arith),
-            fed-each (step g) lineFeed (shown w q) (begin g) (all-above plain (w .prior (w .end) q)),
+            fed-each (step g) lineFeed (shown w q) (begin g) (all-above w q plain (w .prior (w .end) q)),
           )
           (ap (λ (v : X). ended g (foldl (step g) (State.at (g .first) v) (shown w q)) 0) (sym b) ∙ walked tied h r)

@@ -4,3 +4,4 @@ pub mod Lines
 pub mod Places
 pub mod Shows
 pub mod Refused
+pub mod Narrower

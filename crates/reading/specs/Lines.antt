@@ -26,7 +26,7 @@ pub record Form (F L X : Type 0) : Type 0 where
   -- the number of a line of this kind, where the lines before it say this
   pub number : L → X → ℕ
   pub says : L → X → List ℕ → Got F (Next L X)
-  -- "text over 2,048 bytes", and its fault
+  -- how many bytes a text may have, and the fault of one that has more
   pub most : ℕ
   pub long : F
   -- "a line missing, extra, wrongly spelled"

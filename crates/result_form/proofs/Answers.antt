@@ -23,7 +23,7 @@ use Rattle.result_form.proofs.Back.{Has, Spelt}
 use Rattle.result_form.proofs.Trips.{laws}
 use Rattle.result_form.proofs.Trips as trips
 
-answer-status : (a : Answer Fault Result) → resultAnswer a .status ≡ statusOf a
+pub answer-status : (a : Answer Fault Result) → resultAnswer a .status ≡ statusOf a
 answer-status (Answer.done r) = refl
 answer-status (Answer.refused f n) = refl
 

@@ -13,7 +13,7 @@ use Rattle.jobs.specs.declared.Result.{Result}
 use Rattle.jobs.specs.declared.Verdict.{Verdict}
 use Rattle.reading.specs.Lines.{Answer, read}
 use Rattle.reading.specs.NumberLines.{placed}
-use Rattle.reading.specs.Shows.{before, live, Kept, findings, judged}
+use Rattle.reading.specs.Shows.{before, live, Passed, Kept, findings, judged}
 use Rattle.reading.proofs.Walk.{Tied}
 use Rattle.reading.proofs.Trips.{Laws}
 use Rattle.lines.proofs.Trips as trips
@@ -32,7 +32,7 @@ use Rattle.lines.proofs.Found.{found-fine, status-then, status-last}
 use Rattle.lines.proofs.Checks.{counted-fine}
 use Rattle.result_form.specs.declared.ResultRead.{ResultRead}
 use Rattle.result_form.specs.ResultForm.{resultEnd, resultForm, resultAnswer, readResult}
-use Rattle.result_form.specs.ResultShows.{line, resultShows, showResult, Spelled}
+use Rattle.result_form.specs.ResultShows.{line, kinds, resultShows, showResult, Spelled}
 use Rattle.result_form.proofs.Grows.{grows}
 use Rattle.result_form.proofs.Back.{Has, Spelt, law, plain}
 
@@ -122,6 +122,9 @@ same-order r s h = trips.same-order resultForm resultShows Has Spelt laws checkR
     spelt ResultLine.Lo p = s .low
     spelt ResultLine.Hi p = s .high
     spelt ResultLine.End p = tt
+
+pub checked-passed : (r : Result) → checkResult r ≡ Status.Done → Passed resultShows kinds r
+checked-passed = trips.done-passed resultForm resultShows Has Spelt laws checkResult judged-status
 
 -- "Values to text to values gives the same values in the live places."
 pub read-write : (r : Result) → checkResult r ≡ Status.Done

@@ -44,7 +44,8 @@ fn ended(verdict: Verdict, steps: u64, sides: [Interval; N]) -> Outcome
 }
 
 // At most `allowance` steps from the box `start` on. Every step begun is counted, the deciding one too.
-// F and S are made here, since a function that is handed the equations copies all of them at each step.
+// F and S are made here, since a function that is handed the equations copies all of them at each step; each step makes
+// them in the places of those before, which need no clearing.
 fn run_steps(
     eqs: [Equation; N],
     c: [[i64; N]; N],
@@ -56,14 +57,17 @@ fn run_steps(
     ensures { λ r. ⌜ r ≡ runOf n (equationAt eqs) (entryAt c) allowance 0 start ⌝ }
 {
     let mut x = start;
+    let mut f = [Interval { lo: 0, hi: 0 }; N];
+    let mut s = [[Interval { lo: 0, hi: 0 }; N]; N];
     for done in 0..allowance {
         let m = step::middles(x, n);
-        let mut f = [Interval { lo: 0, hi: 0 }; N];
-        let mut s = [[Interval { lo: 0, hi: 0 }; N]; N];
         for i in 0..n {
             let q = eqs[i];
-            f[i] = slopes::equation_over(q, m, n);
-            s[i] = slopes::slope_row(q, x, n);
+            let o = slopes::equation_over(q, m, x, n);
+            let value = o.value;
+            let row = o.slopes;
+            f[i] = value;
+            s[i] = row;
         }
         let k = step::image(c, x, m, f, s, n);
         let d = step::decide(x, k, n);
@@ -80,17 +84,6 @@ fn run_steps(
     ended(Verdict::Spent, allowance, x)
 }
 
-// n itself. Where the compiler sees that a count is from 1 to N, it unrolls the loops that go so far.
-fn bounded(n: usize) -> usize
-    requires { ⌜ (1 ≤ n) × (n ≤ nMax) ⌝ }
-    ensures { λ r. ⌜ r ≡ n ⌝ }
-{
-    if n < 2 {
-        return 1;
-    }
-    if n < N { n } else { N }
-}
-
 // The same of any count from 1 on: where the run of a job and halving meet, both with the equations made.
 pub fn run_system(
     eqs: [Equation; N],
@@ -103,7 +96,7 @@ pub fn run_system(
     requires { ⌜ 1 ≤ n ⌝ }
     ensures { λ r. ⌜ r ≡ runOf n (equationAt eqs) (entryAt c) allowance 0 start ⌝ }
 {
-    let few = bounded(n);
+    let few = step::bounded(n);
     run_steps(eqs, c, start, few, allowance)
 }
 

@@ -5,17 +5,17 @@ use Prim.Native.Nat.{ℕ, _^_}
 abbrev pub mark : ℕ
 mark = 65536
 
--- "n: 1 to 4"
+-- P10: "Raise n to 6"
 abbrev pub nMax : ℕ
-nMax = 4
+nMax = 6
 
 -- "A polynomial equation has 0 to 16 terms"
 abbrev pub termsMax : ℕ
 termsMax = 16
 
--- "Text: at most 2,048 bytes"
+-- P10: "and the text to 4,096 bytes, for jobs and results"
 abbrev pub textMax : ℕ
-textMax = 2048
+textMax = 4096
 
 -- "Steps: 0 to 1,000"
 abbrev pub stepsMax : ℕ

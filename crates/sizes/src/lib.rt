@@ -4,11 +4,11 @@
 // "one mark is 1/65,536"
 pub const MARK: i64 = 65536;
 // Unknowns, equations, rows and columns.
-pub const N: usize = 4;
+pub const N: usize = 6;
 // Terms of an equation.
 pub const TERMS: usize = 16;
 // Bytes of a text.
-pub const TEXT: usize = 2048;
+pub const TEXT: usize = 4096;
 // Steps of a run.
 pub const STEPS: u64 = 1000;
 // The largest job number.

@@ -4,6 +4,7 @@ pub mod Cases
 pub mod Places
 pub mod Ranges
 pub mod Rows
+pub mod Live
 pub mod Factors
 pub mod Values
 pub mod Walk

@@ -4,7 +4,9 @@ use mathlib.Core.Bool.{Bool, true, false, cond}
 use mathlib.Core.List.{List, _∷_}
 use Prim.Native.Nat.{ℕ, zero, suc, _+_, _<_, _≤_, zero-le}
 use native.Mathlib.Decide.{ℕ-discrete}
-use native.Mathlib.Nat.{le-antisymm, le-of-suc-le-suc, le-refl, not-suc-le-zero}
+use mathlib.Core.Logic.{⊎-elim}
+use native.Mathlib.Nat.{le-antisymm, le-of-suc-le-suc, le-refl, not-suc-le-zero, eq-or-lt-of-le}
+use native.Mathlib.Numerals.{add-one}
 use native.Mathlib.Omega.{arith}
 use lib.Dec.{ltb}
 use lib.IntN.{+ℤ-idr}
@@ -22,7 +24,7 @@ use Rattle.intervals.specs.declared.Interval.{Interval}
 
 module _ {ℓ} {A : Type ℓ} (d : A) where
   -- a list of fillers
-  tab-same : (m n : ℕ) (f : ℕ → A) → ((k : ℕ) → d ≡ f k) → replicate m d ≡ tab m n d f
+  pub tab-same : (m n : ℕ) (f : ℕ → A) → ((k : ℕ) → d ≡ f k) → replicate m d ≡ tab m n d f
   unfolding tab
   tab-same zero n f h = refl
   tab-same (suc m) zero f h = refl
@@ -30,7 +32,7 @@ module _ {ℓ} {A : Type ℓ} (d : A) where
       ap₂ (λ (a : A) (t : List A). a ∷ t) (h zero) (tab-same m n (λ i. f (suc i)) (λ k. h (suc k)))
 
   -- one live place is changed
-  tab-put : (m n : ℕ) (f g : ℕ → A) (j : ℕ) → j < n → ((k : ℕ) → (k ≡ j → ⊥) → f k ≡ g k)
+  pub tab-put : (m n : ℕ) (f g : ℕ → A) (j : ℕ) → j < n → ((k : ℕ) → (k ≡ j → ⊥) → f k ≡ g k)
       → set (tab m n d f) j (g j) ≡ tab m n d g
   unfolding tab
   tab-put zero n f g j l h = refl
@@ -106,3 +108,14 @@ module _ (n : ℕ) (g : ℕ → ℕ → Interval) (i : ℕ) where
           at m (no ne) = other j m ne
           at m (yes p) = rw p (lacks j j (le-refl j) ∙ sumI-more (g j) i (add-none (sumI i (g j))) refl (sym z)
               ∙ sym (has (j + 1) j (omega arith)))
+
+    -- nor do summands of zero from j up to k
+    pub row-skip : (j k : ℕ) → j ≤ k → k ≤ n → ((m : ℕ) → j ≤ m → m < k → g m i ≡ zeroI) → s ≡ partly j → s ≡ partly k
+    row-skip j zero h few z e = e ∙ ap partly (omega arith)
+    row-skip j (suc k) h few z e =
+        ⊎-elim
+        (λ q. e ∙ ap partly q)
+        (λ l. rw (← add-one k)
+        (row-keep k few (row-skip j k (le-of-suc-le-suc l) (omega arith) (λ m b p. z m b (omega arith)) e)
+        (z k (omega arith) (omega arith))))
+        (eq-or-lt-of-le h)

@@ -8,3 +8,4 @@ pub mod Hold
 pub mod Decisions
 pub mod Exactly
 pub mod Given
+pub mod Filled

@@ -28,6 +28,18 @@ pub struct Decision {
     pub sides: [Interval; N],
 }
 
+// n itself. Where the compiler sees that a count is from 1 to N, it unrolls the loops that go so far; in a function
+// that stands by itself only where every caller hands over such a count.
+pub fn bounded(n: usize) -> usize
+    requires { ⌜ (1 ≤ n) × (n ≤ nMax) ⌝ }
+    ensures { λ r. ⌜ r ≡ n ⌝ }
+{
+    if n < 2 {
+        return 1;
+    }
+    if n < N { n } else { N }
+}
+
 // m, as the box [m, m].
 pub fn middles(x: [Interval; N], n: usize) -> [Interval; N]
     requires { ⌜ BoxIn n (sideAt x) ⌝ }

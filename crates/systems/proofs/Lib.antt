@@ -1,3 +1,4 @@
+mod Wiped
 pub mod Exponents
 pub mod Monomials
 pub mod Formulas

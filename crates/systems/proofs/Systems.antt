@@ -1,5 +1,5 @@
 -- The equations of a job: one case for each kind, and all of them in range.
-use mathlib.Core.Path.{_≡_, refl, ap, subst}
+use mathlib.Core.Path.{_≡_, refl, sym, ap, subst}
 use Prim.Native.Nat.{ℕ, _+_, _<_, _≤_}
 use native.Mathlib.Decide.{decLt}
 use native.Mathlib.Omega.{arith}
@@ -7,7 +7,8 @@ use lib.IntN.{ℤ, pos}
 use Rattle.sizes.specs.Sizes.{nMax, entryMax}
 use Rattle.integers.specs.Ranges.{Within}
 use Rattle.integers.proofs.Ranges.{within-neg, within-lit}
-use Rattle.lists.proofs.Tab.{getD-tab}
+use Rattle.lists.specs.Loops.{tab}
+use Rattle.lists.proofs.Tab.{getD-tab, tab-cong}
 use Rattle.intervals.specs.Interval.{mark}
 use Rattle.jobs.specs.Places.{noEquation, equationAt}
 use Rattle.jobs.specs.Zero.{zeroEquation}
@@ -28,6 +29,9 @@ module _ (j : Job) {k : Kind} (e : j .head .kind ≡ k) where
   pub equation-by : (i : ℕ) → equationOf j i ≡ equationBy k j i
   unfolding equationOf
   equation-by i = ap (λ k. equationBy k j i) e
+
+  pub equations-by : tab nMax (j .head .n) zeroEquation (equationBy k j) ≡ equationsOf j
+  equations-by = tab-cong zeroEquation nMax (j .head .n) _ _ (λ i l. sym (equation-by i))
 
   pub pin-by : JobIn j → GoodPin k (j .head .n) (j .head .pin)
   pin-by h = subst (λ k. GoodPin k (j .head .n) (j .head .pin)) e (h .pin)

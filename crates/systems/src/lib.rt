@@ -2,19 +2,23 @@
 use jobs::Equation;
 use jobs::Job;
 use jobs::Kind;
+use jobs::Row;
 use jobs::Term;
+use jobs::zero::zero_equation;
 use sizes::MARK;
 use sizes::N;
 use sizes::TERMS;
 ghost use mathlib.Core.Path.{_≡_};
-ghost use Prim.Native.Nat.{_<_, _≤_};
+ghost use Prim.Native.Nat.{_≤_};
 ghost use Rattle.integers.specs.Ranges.{Within};
 ghost use Rattle.lists.specs.Loops.{tab};
 ghost use Rattle.sizes.specs.Sizes.{nMax, entryMax};
 ghost use Rattle.intervals.specs.Places.{numberAt};
+ghost use Rattle.jobs.specs.Places.{equationAt, rowAt};
+ghost use Rattle.jobs.specs.Zero.{zeroEquation};
 ghost use Rattle.systems.specs.Kinds.{unitE, vectorE, eigenE, rowCoef, linearEquation};
-ghost use Rattle.systems.specs.Kinds.{eigenEquation, equationOf, equationsOf};
-ghost use Rattle.systems.specs.Parts.{JobIn};
+ghost use Rattle.systems.specs.Kinds.{eigenEquation, equationsOf};
+ghost use Rattle.systems.specs.Parts.{EntriesIn, JobIn};
 
 // The exponent of unknown k where unknown t stands alone.
 pub fn unit(t: usize, k: usize) -> u8
@@ -124,11 +128,53 @@ pub fn eigen_equation(row: [i64; N], i: usize, p: usize, n: usize) -> Equation
     }
 }
 
-// Equation i of a job.
-pub fn equation_of(j: Job, i: usize) -> Equation
+// The first n of them, and zero past n. All are copied at once: one by one, each would be copied twice.
+fn poly_equations(eqs: [Equation; N], n: usize) -> [Equation; N]
+    requires { ⌜ n ≤ nMax ⌝ }
+    ensures { λ r. ⌜ r ≡ tab nMax n zeroEquation (equationAt eqs) ⌝ }
+{
+    let zero = zero_equation();
+    let mut kept = eqs;
+    for i in n..N {
+        kept[i] = zero;
+    }
+    kept
+}
+
+fn linear_equations(rows: [Row; N], right: [i64; N], n: usize) -> [Equation; N]
+    requires { ⌜ EntriesIn n (numberAt right) ⌝ }
+    ensures { λ r. ⌜ r ≡ tab nMax n zeroEquation
+        (λ i. linearEquation n (numberAt (rowAt rows i)) (numberAt right i)) ⌝ }
+{
+    let zero = zero_equation();
+    let mut eqs = [zero; N];
+    for i in 0..n {
+        let row = rows[i];
+        let at = row.at;
+        eqs[i] = linear_equation(at, right[i], n);
+    }
+    eqs
+}
+
+fn eigen_equations(rows: [Row; N], p: usize, n: usize) -> [Equation; N]
+    requires { ⌜ n ≤ nMax ⌝ }
+    ensures { λ r. ⌜ r ≡ tab nMax n zeroEquation (λ i. eigenEquation n p (numberAt (rowAt rows i)) i) ⌝ }
+{
+    let zero = zero_equation();
+    let mut eqs = [zero; N];
+    for i in 0..n {
+        let row = rows[i];
+        let at = row.at;
+        eqs[i] = eigen_equation(at, i, p, n);
+    }
+    eqs
+}
+
+// The equations of a job. Each kind has a loop of its own, over that part of the job alone: a loop that asks for the
+// kind at each equation copies the part at each.
+pub fn equations(j: Job) -> [Equation; N]
     requires { ⌜ JobIn j ⌝ }
-    requires { ⌜ i < j .head .n ⌝ }
-    ensures { λ r. ⌜ r ≡ equationOf j i ⌝ }
+    ensures { λ r. ⌜ r ≡ equationsOf j ⌝ }
 {
     let n = j.head.n;
     let head = j.head;
@@ -136,40 +182,16 @@ pub fn equation_of(j: Job, i: usize) -> Equation
     match kind {
         Kind::Poly => {
             let eqs = j.system.eqs;
-            eqs[i]
+            poly_equations(eqs, n)
         }
         Kind::Linear => {
             let rows = j.system.rows;
-            let row = rows[i];
-            let at = row.at;
             let right = j.system.right;
-            linear_equation(at, right[i], n)
+            linear_equations(rows, right, n)
         }
         Kind::Eigen => {
             let rows = j.system.rows;
-            let row = rows[i];
-            let at = row.at;
-            eigen_equation(at, i, head.pin - 1, n)
+            eigen_equations(rows, head.pin - 1, n)
         }
     }
-}
-
-// The equations of a job.
-pub fn equations(j: Job) -> [Equation; N]
-    requires { ⌜ JobIn j ⌝ }
-    ensures { λ r. ⌜ r ≡ equationsOf j ⌝ }
-{
-    let none = Equation {
-        count: 0,
-        terms: [Term {
-            coef: 0,
-            exps: [0; N],
-        }; TERMS],
-    };
-    let mut eqs = [none; N];
-    let n = j.head.n;
-    for i in 0..n {
-        eqs[i] = equation_of(j, i);
-    }
-    eqs
 }

@@ -48,10 +48,6 @@ joined-next m f =
     ap joined (tab-next [] m f) ∙ joined-snoc (tab m m [] f) (f m)
     ∙ ap (λ (k : ℕ). (joined (tab m m [] f) ++ commaBefore k) ++ f m) (length-tab [] m m f)
 
-pub joined-empty : (f : ℕ → List ℕ) → joined (tab 0 0 [] f) ≡ []
-unfolding tab joined
-joined-empty f = refl
-
 pub comma-first : (i : ℕ) → i ≡ 0 → commaBefore i ≡ []
 unfolding commaBefore
 comma-first i e = rw e

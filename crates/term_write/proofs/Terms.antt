@@ -1,29 +1,29 @@
 -- How long written terms are, and that the exponents of an accepted term are digits.
-use Prim.Native.Nat.{ℕ, zero, suc, _+_, _*_, _≤_, _<_}
+use Prim.Native.Nat.{ℕ, zero, suc, _+_, _*_, _≤_, _<_, _^_}
 use native.Mathlib.Omega.{arith}
 use native.Mathlib.Nat.{not-suc-le-zero, le-of-suc-le-suc, eq-or-lt-of-le}
-use native.Mathlib.Numerals.{add-one}
 use mathlib.Core.Path.{_≡_, ap}
 use mathlib.Core.Logic.{⊎-elim}
-use mathlib.Core.List.{[], _∷_, _++_}
+use mathlib.Core.List.{List, [], _∷_}
 use lib.ListN.{length, length-append}
-use Rattle.sizes.specs.Sizes.{nMax, termsMax}
-use Rattle.lists.specs.Loops.{carry}
+use lib.IntN.{natAbs}
+use Rattle.sizes.specs.Sizes.{nMax}
+use Rattle.lists.specs.Loops.{tab, carry}
 use Rattle.lists.proofs.Tab.{length-tab}
-use Rattle.digits.specs.Bytes.{lineFeed}
 use Rattle.digits.specs.Number.{digitsMax}
 use Rattle.digits.specs.Show.{showNumber}
-use Rattle.digits.proofs.Show.{number-short}
+use Rattle.digits.proofs.Show.{number-short, number-under}
 use Rattle.text.specs.Lists.{joined}
 use Rattle.jobs.specs.Places.{termAt}
 use Rattle.term_checks.specs.Terms.{degree}
 use Rattle.writing.specs.Wrote.{line}
+use Rattle.writing.proofs.Lists.{joined-short, tab-short}
+use Rattle.writing.proofs.Lines.{line-long}
 use Rattle.text.specs.Words.{eqKey}
 use Rattle.term_text.specs.Terms.{colon}
 use Rattle.jobs.specs.declared.Term.{Term}
 use Rattle.jobs.specs.declared.Equation.{Equation}
-use Rattle.term_write.specs.ShowTerms.{showExponents, showTerm, termTexts, equationText, commaBefore, termWidth}
-use Rattle.term_write.proofs.Joined.{joined-next, joined-empty, comma-short}
+use Rattle.term_write.specs.ShowTerms.{showExponents, showTerm, termTexts, equationText, termWidth}
 
 -- no exponent is above the total degree
 pub digit-low : (e : ℕ → ℕ) (n k : ℕ) → k < n → e k ≤ degree n e
@@ -39,33 +39,34 @@ pub exponents-long : (n : ℕ) (t : Term) → length (showExponents n t) ≡ n
 unfolding showExponents
 exponents-long n t = length-tab 0 n n _
 
-pub term-short : (n : ℕ) (t : Term) → length (showTerm n t) ≤ digitsMax + 2 + n
+-- a coefficient, a colon and the exponents
+term-long : (n : ℕ) (t : Term) → length (showTerm n t) ≡ length (showNumber (t .coef)) + 1 + n
 unfolding showTerm
-term-short n t =
-    rw (length-append (showNumber (t .coef)) (colon ∷ showExponents n t))
-    (omega (arith, number-short digitsMax (t .coef), exponents-long n t))
+term-long n t =
+    rw (length-append (showNumber (t .coef)) (colon ∷ showExponents n t)) (omega (arith, exponents-long n t))
+
+-- terms of at most w bytes
+terms-within : (n : ℕ) (q : Equation) (w m : ℕ) → ((k : ℕ) → k < m → length (showTerm n (termAt q k)) ≤ w)
+    → length (joined (termTexts n q m)) ≤ (w + 1) * m
+unfolding termTexts
+terms-within n q w m h =
+    let shown : ℕ → List ℕ = λ k. showTerm n (termAt q k) in
+    rw (length-tab [] m m shown) at (joined-short w (tab m m [] shown) (tab-short w m shown h))
 
 pub terms-short : (n : ℕ) (q : Equation) (m : ℕ) → n ≤ nMax → length (joined (termTexts n q m)) ≤ termWidth * m
-unfolding termTexts
-terms-short n q zero h = rw (joined-empty (λ k. showTerm n (termAt q k))) (omega arith)
-terms-short n q (suc m) h =
-    let ih = terms-short n q m h in
-    let t = showTerm n (termAt q m) in
-    let before = joined (termTexts n q m) in
-    rw (
-      ← add-one m,
-      joined-next m (λ k. showTerm n (termAt q k)),
-      length-append (before ++ commaBefore m) t,
-      length-append before (commaBefore m),
-    )
-    (omega (arith, comma-short m, term-short n (termAt q m)))
+terms-short n q m few =
+    terms-within n q (digitsMax + 2 + nMax) m (λ k l.
+    omega (arith, few, term-long n (termAt q k), number-short digitsMax (termAt q k .coef)))
 
-pub equation-short : (n : ℕ) (q : Equation)
-    → n ≤ nMax → q .count ≤ termsMax → length (line (equationText n q)) ≤ 4 + termWidth * termsMax
-unfolding line equationText
-equation-short n q h f =
-    rw (
-      length-append (eqKey ++ joined (termTexts n q (q .count))) (lineFeed ∷ []),
-      length-append eqKey (joined (termTexts n q (q .count))),
-    )
-    (omega (arith, terms-short n q (q .count) h))
+-- an equation whose coefficients have at most suc j digits
+pub equation-under : (n : ℕ) (q : Equation) (j : ℕ) → n ≤ nMax
+    → ((k : ℕ) → k < q .count → natAbs (termAt q k .coef) < 10 ^ suc j)
+    → length (line (equationText n q)) ≤ 4 + (suc j + 3 + nMax) * q .count
+unfolding equationText
+equation-under n q j few small =
+    rw (line-long eqKey (joined (termTexts n q (q .count))))
+    (omega (
+      arith,
+      terms-within n q (suc j + 2 + nMax) (q .count) (λ k l.
+          omega (arith, few, term-long n (termAt q k), number-under digitsMax j (termAt q k .coef) (small k l))),
+    ))

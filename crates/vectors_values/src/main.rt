@@ -33,9 +33,9 @@ fn heads() {
     job(b"number 1000000000", number(p, 1000000000));
     job(b"number at most", number(p, MOST));
     job(b"n 0", unknowns(p, 0));
-    job(b"n 5", unknowns(p, 5));
+    job(b"n 7", unknowns(p, 7));
     job(b"n at most", unknowns(p, MOST as usize));
-    job(b"number and n", unknowns(number(p, 1000000000), 5));
+    job(b"number and n", unknowns(number(p, 1000000000), 7));
     job(b"steps 0", steps(p, 0));
     job(b"steps 1001", steps(p, 1001));
     job(b"steps at most", steps(p, MOST));
@@ -87,7 +87,7 @@ fn pins() {
     job(b"pin 0", pin(e, 0));
     job(b"pin 3", pin(e, 3));
     job(b"pin at most", pin(e, MOST as usize));
-    job(b"n and pin", pin(unknowns(e, 5), 0));
+    job(b"n and pin", pin(unknowns(e, 7), 0));
     job(b"pin and low end", pin(ends(e, -262145, 0), 0));
     job(b"pin 1, low end beyond", ends(p, -262145, 0));
     job(b"pin 1, ends crossed", ends(p, 1, 0));
@@ -102,7 +102,7 @@ fn results() {
     result(b"result number 1000000000", result_number(r, 1000000000));
     result(b"result steps 1001", result_steps(r, 1001));
     result(b"result n 0", result_unknowns(r, 0));
-    result(b"result n 5", result_unknowns(r, 5));
+    result(b"result n 7", result_unknowns(r, 7));
     result(b"result n at most", result_unknowns(r, MOST as usize));
     result(b"result low end beyond", result_ends(r, -262145, 0));
     result(b"result high end least", result_ends(r, 0, LEAST));
@@ -118,7 +118,7 @@ fn job_rooms() {
     job_into(p, &mut short);
     let mut byte = [b'.'; 1];
     job_into(p, &mut byte);
-    job_into(unknowns(p, 5), &mut byte);
+    job_into(unknowns(p, 7), &mut byte);
     let e = pin(values::eigen(), 1);
     let mut pinned = [b'.'; 123];
     job_into(e, &mut pinned);

@@ -14,20 +14,17 @@ use Rattle.text.specs.Lists.{showAll}
 use Rattle.writing.specs.Wrote.{line}
 use Rattle.writing.proofs.Lists.{list-short}
 
+pub line-long : (key body : List ℕ) → length (line (key ++ body)) ≡ length key + length body + 1
+unfolding line
+line-long key body = rw (length-append (key ++ body) (lineFeed ∷ []), length-append key body)
+
 pub count-line-short : (key : List ℕ) (m : ℕ)
     → length (line (key ++ showMagnitude digitsMax m)) ≤ length key + digitsMax + 1
-unfolding line
-count-line-short key m =
-    let digits = showMagnitude digitsMax m in
-    rw (length-append (key ++ digits) (lineFeed ∷ []), length-append key digits)
-    (omega (arith, show-short digitsMax m))
+count-line-short key m = rw (line-long key (showMagnitude digitsMax m)) (omega (arith, show-short digitsMax m))
 
 pub list-line-short : (k : ℕ) (key : List ℕ) (xs : List ℤ)
     → length (line (key ++ showAll k xs)) ≤ length key + (k + 2) * length xs + 1
-unfolding line
-list-line-short k key xs =
-    rw (length-append (key ++ showAll k xs) (lineFeed ∷ []), length-append key (showAll k xs))
-    (omega (arith, list-short k xs))
+list-line-short k key xs = rw (line-long key (showAll k xs)) (omega (arith, list-short k xs))
 
 pub end-length : (l : List ℕ) (ls : List (List ℕ))
     → length (endEach lineFeed (l ∷ ls)) ≡ length (line l) + length (endEach lineFeed ls)

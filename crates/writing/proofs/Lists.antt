@@ -4,13 +4,13 @@ use native.Mathlib.Omega.{arith}
 use native.Mathlib.Numerals.{add-one}
 use mathlib.Core.Path.{_≡_, refl, ap}
 use mathlib.Core.List.{List, [], _∷_, _++_, map, append-assoc, append-nil}
-use lib.ListN.{length, take, getD, length-append, drop-of-length-le}
+use lib.ListN.{length, take, getD, length-append, length-map, drop-of-length-le}
 use lib.Seq.{drop-cons}
 use lib.IntN.{ℤ, pos, natAbs}
 use Rattle.lists.specs.Loops.{tab}
 use Rattle.digits.specs.Bytes.{comma}
 use Rattle.digits.specs.Show.{showSigned}
-use Rattle.digits.proofs.Show.{number-short}
+use Rattle.digits.proofs.Show.{number-short, number-under}
 use Rattle.text.specs.Lists.{afterCommas, joined, showAll, Below}
 use Rattle.reading.specs.NumberLines.{placed}
 use Rattle.writing.specs.Wrote.{showMore}
@@ -52,17 +52,51 @@ module _ (k : ℕ) where
   list-some [] n = absurd (n refl)
   list-some (x ∷ xs) n = refl
 
-  -- a comma, a minus and k digits for each number
-  after-short : (xs : List ℤ) → length (afterCommas (map (showSigned k) xs)) ≤ (k + 2) * length xs
-  unfolding afterCommas
-  after-short [] = omega arith
-  after-short (v ∷ vs) =
-      rw (length-append (showSigned k v) (afterCommas (map (showSigned k) vs)))
-      (omega (arith, number-short k v, after-short vs))
+-- ---- how long a list is
 
+-- each item has at most w bytes
+abbrev pub AllShort : ℕ → List (List ℕ) → Type 0
+AllShort w [] = Unit {0}
+AllShort w (x ∷ xs) = (length x ≤ w) × AllShort w xs
+
+-- a comma and an item
+after-short : (w : ℕ) (xs : List (List ℕ)) → AllShort w xs → length (afterCommas xs) ≤ (w + 1) * length xs
+unfolding afterCommas
+after-short w [] s = omega arith
+after-short w (x ∷ xs) s =
+    rw (length-append x (afterCommas xs)) (omega (arith, s .0, after-short w xs (s .1)))
+
+pub joined-short : (w : ℕ) (xs : List (List ℕ)) → AllShort w xs → length (joined xs) ≤ (w + 1) * length xs
+unfolding joined
+joined-short w [] s = omega arith
+joined-short w (x ∷ xs) s =
+    rw (length-append x (afterCommas xs)) (omega (arith, s .0, after-short w xs (s .1)))
+
+pub tab-short : (w m : ℕ) (f : ℕ → List ℕ) → ((i : ℕ) → i < m → length (f i) ≤ w) → AllShort w (tab m m [] f)
+unfolding tab
+tab-short w zero f h = tt
+tab-short w (suc m) f h = (h zero (omega arith), tab-short w m (λ i. f (suc i)) (λ i l. h (suc i) (omega arith)))
+
+module _ (k : ℕ) where
+  shown-long : (xs : List ℤ) → length (map (showSigned k) xs) ≡ length xs
+  shown-long xs = length-map xs (showSigned k)
+
+  -- a comma, a minus and k digits for each number
   pub list-short : (xs : List ℤ) → length (showAll k xs) ≤ (k + 2) * length xs
-  unfolding showAll joined
-  list-short [] = omega arith
-  list-short (v ∷ vs) =
-      rw (length-append (showSigned k v) (afterCommas (map (showSigned k) vs)))
-      (omega (arith, number-short k v, after-short vs))
+  unfolding showAll
+  list-short xs =
+      rw (← shown-long xs) (omega (arith, joined-short (k + 1) (map (showSigned k) xs) (go xs)))
+    where
+      go : (xs : List ℤ) → AllShort (k + 1) (map (showSigned k) xs)
+      go [] = tt
+      go (v ∷ vs) = (number-short k v, go vs)
+
+  -- or as many digits as the greatest has
+  pub list-under : (j : ℕ) (xs : List ℤ) → Below (suc j) xs → length (showAll k xs) ≤ (suc j + 2) * length xs
+  unfolding showAll Below
+  list-under j xs s =
+      rw (← shown-long xs) (omega (arith, joined-short (suc j + 1) (map (showSigned k) xs) (go xs s)))
+    where
+      go : (xs : List ℤ) → Below (suc j) xs → AllShort (suc j + 1) (map (showSigned k) xs)
+      go [] s = tt
+      go (v ∷ vs) s = (number-under k j v (s .0), go vs (s .1))

@@ -7,10 +7,11 @@ use Rattle.batch.proofs.all.Statement.{statement}
 use Rattle.batch.proofs.all.Tie as tie
 
 abbrev Inv-loop : tie.InvT-loop
-Inv-loop fd have₀ out₀ h₀ turns₀ have out h turns = InHand h inMax × (length have ≡ inMax) × (length out ≡ outMax)
+Inv-loop fd have₀ out₀ room₀ h₀ turns₀ have out room h turns =
+    InHand h inMax × (length have ≡ inMax) × (length out ≡ outMax)
 
 abbrev μ-loop : tie.MeasureT-loop
-μ-loop fd have₀ out₀ h₀ turns₀ have out h turns = turns
+μ-loop fd have₀ out₀ room₀ h₀ turns₀ have out room h turns = turns
 
 pub all-spec : {M : Type 1} → statement M
 all-spec =

@@ -1,38 +1,35 @@
--- equations: after i turns the first i equations of the job.
-use mathlib.Core.Path.{_≡_}
-use Prim.Native.Nat.{_≤_, _-_}
-use native.Mathlib.Omega.{arith}
-use Rattle.sizes.specs.Sizes.{nMax}
-use Rattle.lists.specs.Loops.{tab}
-use Rattle.lists.proofs.Tab.{tab-none, tab-more, tab-done}
-use Rattle.jobs.specs.Zero.{zeroEquation}
-use Rattle.systems.specs.Kinds.{equationOf}
+-- equations: one case for each kind.
+use mathlib.Core.Path.{_≡_, _∙_}
+use borrow.Author.Needs.{needs}
+use Rattle.systems.proofs.Systems.{equations-by, pin-by, parts-by}
 use Rattle.systems.proofs.equations.Statement.{statement}
 use Rattle.systems.proofs.equations.Tie as tie
 
-abbrev Inv-loop : tie.InvT-loop
-Inv-loop j eqs₀ n i₀ eqs i = (i ≤ n) × (eqs ≡ tab nMax i zeroEquation (equationOf j))
+poly-equations-requires : tie.Need-poly-equations-requires
+poly-equations-requires c κs = c .before .before .before .before .pre .places
 
-abbrev μ-loop : tie.MeasureT-loop
-μ-loop j eqs₀ n i₀ eqs i = n - i
+linear-equations-requires : tie.Need-linear-equations-requires
+linear-equations-requires c κs =
+    parts-by _ (c .before .before .enum-told2 .given .1) (c .before .before .before .before .before .pre) .1
 
-loop-holds : tie.Need-loop-holds Inv-loop μ-loop
-loop-holds c = (omega arith, tab-none zeroEquation nMax _)
+sub-eigen-equations : tie.Need-sub-eigen-equations
+sub-eigen-equations c =
+    pin-by _ (c .before .before .enum-told3 .given .1) (c .before .before .before .before .before .pre) .0
 
-equation-of-requires : tie.Need-equation-of-requires Inv-loop μ-loop
-equation-of-requires c κs = (c .before .before .pre, c .loop-test .taken)
+eigen-equations-requires : tie.Need-eigen-equations-requires
+eigen-equations-requires c κs = c .before .before .before .before .before .pre .places
 
-loop-again : tie.Need-loop-again Inv-loop μ-loop
-loop-again c = (
-  omega arith,
-  tab-more zeroEquation nMax _ _ (omega arith) (c .before .before .loop .inv .1) (c .equation-of .ensures),
-)
+returns : tie.Need-returns
+returns c = c .poly-equations .ensures ∙ equations-by _ (c .before .before .enum-told .given .1)
 
-returns : tie.Need-returns Inv-loop μ-loop
-returns c = tab-done zeroEquation nMax _ (c .before .loop .inv .0) (c .loop-test .left) (c .before .loop .inv .1)
+returns-2 : tie.Need-returns-2
+returns-2 c = c .linear-equations .ensures ∙ equations-by _ (c .before .before .before .enum-told2 .given .1)
+
+returns-3 : tie.Need-returns-3
+returns-3 c = c .eigen-equations .ensures ∙ equations-by _ (c .before .before .before .enum-told3 .given .1)
 
 pub equations-spec : {M : Type 1} → statement M
 equations-spec =
     tie.close
-    (tie.spec Inv-loop μ-loop loop-holds equation-of-requires (λ c. omega arith) (λ c. omega arith) (λ c. omega arith)
-    (λ c. omega arith) loop-again returns)
+    (tie.spec (λ c. search needs) poly-equations-requires (λ c. search needs) linear-equations-requires
+    (λ c. search needs) sub-eigen-equations eigen-equations-requires returns returns-2 returns-3)

@@ -1,6 +1,7 @@
 -- `job_put::rows::put_inverse_line` meets its contract.
 use borrow.Author.Needs.{needs}
 use native.Mathlib.Omega.{arith}
+use Rattle.digits.specs.Number.{digitsMax}
 use Rattle.lines.proofs.Rows.{square-fits, matrix-long, matrix-within}
 use Rattle.job_put.proofs.Matrix.{matrix-taken, matrix-prefix}
 use Rattle.job_put.proofs.rows.put_inverse_line.Statement.{statement}
@@ -29,7 +30,7 @@ put-list-line-requires c κs =
     rw (matrix-taken rows n few (c .before .before .before .entries .ensures)) (
       omega arith,
       omega (arith, start .pre .room, matrix-long rows n, square-fits n few),
-      matrix-within n (start .pre .some) few rows (start .pre .entries),
+      matrix-within n (start .pre .some) few rows digitsMax (omega arith) (start .pre .entries),
     )
 
 returns : tie.Need-returns
