@@ -3,7 +3,6 @@ use Prim.Native.Nat.{ℕ, _<_}
 use native.Mathlib.Omega.{arith}
 use mathlib.Core.Path.{_≡_, refl, sym, ap, _∙_}
 use mathlib.Core.List.{List, foldl}
-use mathlib.Core.Bool.{false}
 use mathlib.Core.Logic.{_⊎_, inl, inr}
 use lib.ListN.{drop}
 use Rattle.faults.specs.declared.Fault.{Fault}
@@ -13,24 +12,24 @@ use Rattle.jobs.specs.declared.JobLine.{JobLine}
 use Rattle.jobs.specs.Lines.{jobNumber}
 use Rattle.checks.specs.Checks.{checkJob}
 use Rattle.checks.proofs.AcceptedLaws.{check-done}
-use Rattle.reading.specs.Got.{Got, after}
+use Rattle.reading.specs.Got.{after}
 use Rattle.reading.specs.Lines.{State, Answer, heard, step, begin, read}
 use Rattle.reading.specs.Shows.{shown, Passed}
 use Rattle.reading.specs.Narrower.{NarrowLine, Narrower, NarrowAnswer}
 use Rattle.reading.proofs.Decided.{stays-bad}
-use Rattle.reading.proofs.Walk.{all-above}
+use Rattle.reading.proofs.Walk.{all-above, line-read}
 use Rattle.reading.proofs.Narrower.{narrow-read, lines-bad}
 use Rattle.job_form.specs.declared.JobRead.{JobRead}
-use Rattle.job_form.specs.JobForm.{jobSays, jobEnd, jobForm, jobAnswer, refusedWith, readJob}
-use Rattle.job_form.specs.JobBytes.{jobLine, jobNext, jobPrior, jobShows, jobBytes}
+use Rattle.job_form.specs.JobForm.{jobSays, jobForm, jobAnswer, refusedWith, readJob}
+use Rattle.job_form.specs.JobBytes.{jobLine, jobPrior, jobShows, jobBytes}
 use Rattle.job_form.specs.Live.{jobUpto}
-use Rattle.job_form.proofs.Reached.{Has}
 use Rattle.job_form.proofs.Back.{law, plain}
 use Rattle.job_form.proofs.Short.{job-width}
 use Rattle.job_form.proofs.Trips.{checked-passed}
 use Rattle.job_form.proofs.Answers.{answer-status, read-checked, read-same, exactly}
 use Rattle.old_texts.specs.Old.{nOld, textOld, oldJobSays, oldJobForm, oldReadJob}
-use Rattle.old_texts.proofs.Lines.{after-narrow, unknowns-narrow, unknowns-refused, same-unless, done-refused}
+use Rattle.old_texts.proofs.Lines.{after-narrow, unknowns-narrow, unknowns-refused}
+use Rattle.old_texts.proofs.Lines as lines
 
 narrower : Narrower jobForm oldJobSays textOld Fault.Unknowns 3
 unfolding oldJobSays
@@ -59,29 +58,23 @@ pub same-or : (t : List ℕ)
     ⊎ ((oldReadJob t ≡ refusedWith (Status.Refused Fault.Unknowns 3))
     ⊎ (oldReadJob t ≡ refusedWith (Status.Refused Fault.LongText 0)))
 unfolding readJob oldReadJob
-same-or t = go (old-answer t)
-  where
-    go : NarrowAnswer Fault.Unknowns 3 Fault.LongText (read oldJobForm t) (read jobForm t)
-        → (jobAnswer (read oldJobForm t) ≡ jobAnswer (read jobForm t))
-        ⊎ ((jobAnswer (read oldJobForm t) ≡ refusedWith (Status.Refused Fault.Unknowns 3))
-        ⊎ (jobAnswer (read oldJobForm t) ≡ refusedWith (Status.Refused Fault.LongText 0)))
-    go (NarrowAnswer.same e) = inl (ap jobAnswer e)
-    go (NarrowAnswer.faulty e) = inr (inl (ap jobAnswer e))
-    go (NarrowAnswer.tooLong e) = inr (inr (ap jobAnswer e))
+same-or = lines.same-or (read oldJobForm) (read jobForm) old-answer jobAnswer
 
 -- where it answers neither 1 nor 3
 pub same-otherwise : (t : List ℕ) → ((n : ℕ) → oldReadJob t .status ≡ Status.Refused Fault.LongText n → ⊥)
     → ((n : ℕ) → oldReadJob t .status ≡ Status.Refused Fault.Unknowns n → ⊥) → readJob t ≡ oldReadJob t
 unfolding readJob oldReadJob
-same-otherwise t long many =
-    let is = answer-status (read oldJobForm t) in
-    ap jobAnswer (same-unless (old-answer t) (λ n e. long n (is ∙ e)) (λ n e. many n (is ∙ e)))
+same-otherwise =
+    lines.same-otherwise (read oldJobForm) (read jobForm) old-answer jobAnswer (λ x. x .status) answer-status
+
+done-too : (t : List ℕ) → oldReadJob t .status ≡ Status.Done → readJob t ≡ oldReadJob t
+unfolding readJob oldReadJob
+done-too = lines.done-too (read oldJobForm) (read jobForm) old-answer jobAnswer (λ x. x .status) answer-status
 
 pub as-before : (t : List ℕ) (j : Job) → oldReadJob t ≡ record { status = Status.Done; job = j }
     → (readJob t ≡ record { status = Status.Done; job = j }) × (jobBytes j ≡ t)
 as-before t j e =
-    let done = ap (λ (x : JobRead). x .status) e in
-    let now = same-otherwise t (λ n p. done-refused (sym done ∙ p)) (λ n p. done-refused (sym done ∙ p)) ∙ e in
+    let now = done-too t (ap (λ (x : JobRead). x .status) e) ∙ e in
     (now, exactly t j .0 now .0)
 
 -- ---- a right text of more unknowns
@@ -90,19 +83,13 @@ module _ (j : Job) (passed : Passed jobShows (jobPrior JobLine.End j) j) (many :
   abbrev stands : JobLine → State Fault JobLine Job
   stands k = State.at k (jobUpto k j)
 
-  -- a line that is read
-  line-read : (k : JobLine) → Has j k → jobEnd k ≡ false → jobShows .check k j ≡ Got.got tt
-      → step jobForm (stands k) (jobLine k j) ≡ stands (jobNext k j)
-  unfolding step heard after
-  line-read k h o e = let a = law j k h o in rw (o, a .says (a .spelt e), e)
-
   first-read : step oldJobForm (stands JobLine.Number) (jobLine JobLine.Number j) ≡ stands JobLine.Kind
   unfolding step oldJobSays
-  first-read = line-read JobLine.Number tt refl (passed .0)
+  first-read = line-read jobForm jobShows j _ _ (law j JobLine.Number tt refl) refl (passed .0)
 
   second-read : step oldJobForm (stands JobLine.Kind) (jobLine JobLine.Kind j) ≡ stands JobLine.Unknowns
   unfolding step oldJobSays
-  second-read = line-read JobLine.Kind tt refl (passed .1 .0)
+  second-read = line-read jobForm jobShows j _ _ (law j JobLine.Kind tt refl) refl (passed .1 .0)
 
   third-bad : step oldJobForm (stands JobLine.Unknowns) (jobLine JobLine.Unknowns j) ≡ State.bad Fault.Unknowns 3
   unfolding step heard oldJobSays after

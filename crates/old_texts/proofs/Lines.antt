@@ -4,6 +4,7 @@ use native.Mathlib.Omega.{arith}
 use mathlib.Core.Path.{_≡_, refl, sym, ap, _∙_}
 use mathlib.Core.List.{List}
 use mathlib.Core.Bool.{Bool, true, false}
+use mathlib.Core.Logic.{_⊎_, inl, inr}
 use lib.Dec.{leb}
 use lib.IntN.{ℤ}
 use borrow.Author.Tests.{le-leb, lt-leb, leb-true}
@@ -36,7 +37,7 @@ unfolding after
 after-narrow h (NarrowLine.same e) = NarrowLine.same (ap (λ x. after x h) e)
 after-narrow h (NarrowLine.faulty e) = NarrowLine.faulty (ap (λ x. after x h) e)
 
--- a check that finds less after a check that finds as much
+-- one check, or the other, of what is read
 pub passing-narrow : {A : Type 0} (r : Got Fault A) (old new : A → Finding)
     → ((x : A) → NarrowLine Fault.Unknowns (after (found (old x)) (λ u. x)) (after (found (new x)) (λ u. x)))
     → NarrowLine Fault.Unknowns (passing r (λ x. found (old x))) (passing r (λ x. found (new x)))
@@ -119,14 +120,38 @@ module _ (n : ℕ) (many : nOld < n) (few : n ≤ nMax) where
   unfolding countCheck firstOf badUnless
   count-taken = rw (le-leb 1 n (omega arith), le-leb n nMax few)
 
--- ---- the answers
+-- ---- the answers, and what is made of them
 
-pub same-unless : {X : Type 0} {a b : Answer Fault X} {line : ℕ} → NarrowAnswer Fault.Unknowns line Fault.LongText a b
-    → ((n : ℕ) → statusOf a ≡ Status.Refused Fault.LongText n → ⊥)
-    → ((n : ℕ) → statusOf a ≡ Status.Refused Fault.Unknowns n → ⊥) → b ≡ a
-same-unless (NarrowAnswer.same e) long many = sym e
-same-unless {line = line} (NarrowAnswer.faulty e) long many = absurd (many line (ap statusOf e))
-same-unless (NarrowAnswer.tooLong e) long many = absurd (long 0 (ap statusOf e))
+module _ {X R : Type 0} (old new : List ℕ → Answer Fault X) {line : ℕ}
+    (near : (t : List ℕ) → NarrowAnswer Fault.Unknowns line Fault.LongText (old t) (new t)) (by : Answer Fault X → R)
+  where
+    pub same-or : (t : List ℕ)
+        → (by (old t) ≡ by (new t))
+        ⊎ ((by (old t) ≡ by (Answer.refused Fault.Unknowns line)) ⊎ (by (old t) ≡ by (Answer.refused Fault.LongText 0)))
+    same-or t = go (near t)
+      where
+        go : NarrowAnswer Fault.Unknowns line Fault.LongText (old t) (new t)
+            → (by (old t) ≡ by (new t))
+            ⊎ ((by (old t) ≡ by (Answer.refused Fault.Unknowns line))
+            ⊎ (by (old t) ≡ by (Answer.refused Fault.LongText 0)))
+        go (NarrowAnswer.same e) = inl (ap by e)
+        go (NarrowAnswer.faulty e) = inr (inl (ap by e))
+        go (NarrowAnswer.tooLong e) = inr (inr (ap by e))
 
-pub done-refused : {f : Fault} {n : ℕ} → Status.Done ≡ Status.Refused f n → ⊥
-done-refused e = let z : _≡_ {A = ℕ} 0 1 = cc in absurd (omega arith)
+    module _ (status : R → Status) (is : (a : Answer Fault X) → status (by a) ≡ statusOf a) where
+      pub same-otherwise : (t : List ℕ)
+          → ((n : ℕ) → status (by (old t)) ≡ Status.Refused Fault.LongText n → ⊥)
+          → ((n : ℕ) → status (by (old t)) ≡ Status.Refused Fault.Unknowns n → ⊥) → by (new t) ≡ by (old t)
+      same-otherwise t long many = go (near t)
+        where
+          go : NarrowAnswer Fault.Unknowns line Fault.LongText (old t) (new t) → by (new t) ≡ by (old t)
+          go (NarrowAnswer.same e) = ap by (sym e)
+          go (NarrowAnswer.faulty e) = absurd (many line (is (old t) ∙ ap statusOf e))
+          go (NarrowAnswer.tooLong e) = absurd (long 0 (is (old t) ∙ ap statusOf e))
+
+      pub done-too : (t : List ℕ) → status (by (old t)) ≡ Status.Done → by (new t) ≡ by (old t)
+      done-too t done =
+          same-otherwise t (λ n p. done-refused (sym done ∙ p)) (λ n p. done-refused (sym done ∙ p))
+        where
+          done-refused : {f : Fault} {n : ℕ} → Status.Done ≡ Status.Refused f n → ⊥
+          done-refused e = let z : _≡_ {A = ℕ} 0 1 = cc in absurd (omega arith)

@@ -3,7 +3,6 @@ use Prim.Native.Nat.{ℕ, _<_}
 use native.Mathlib.Omega.{arith}
 use mathlib.Core.Path.{_≡_, refl, sym, ap, _∙_}
 use mathlib.Core.List.{List, foldl}
-use mathlib.Core.Bool.{false}
 use mathlib.Core.Logic.{_⊎_, inl, inr}
 use lib.ListN.{drop}
 use Rattle.faults.specs.declared.Fault.{Fault}
@@ -12,23 +11,24 @@ use Rattle.jobs.specs.declared.Result.{Result}
 use Rattle.jobs.specs.declared.ResultLine.{ResultLine}
 use Rattle.jobs.specs.Lines.{resultNumber}
 use Rattle.checks.specs.CheckResult.{resultCheck, checkResult}
-use Rattle.reading.specs.Got.{Got, after}
+use Rattle.reading.specs.Got.{after}
 use Rattle.reading.specs.Lines.{State, Answer, heard, step, begin, read}
 use Rattle.reading.specs.Shows.{shown, Passed}
 use Rattle.reading.specs.Narrower.{NarrowLine, Narrower, NarrowAnswer}
 use Rattle.reading.proofs.Decided.{stays-bad}
-use Rattle.reading.proofs.Walk.{all-above}
+use Rattle.reading.proofs.Walk.{all-above, line-read}
 use Rattle.reading.proofs.Narrower.{narrow-read, lines-bad}
 use Rattle.lines.proofs.Found.{found-fine}
 use Rattle.lines.proofs.Checks.{counted-fine}
 use Rattle.result_form.specs.declared.ResultRead.{ResultRead}
-use Rattle.result_form.specs.ResultForm.{resultSays, resultEnd, resultForm, resultAnswer, readResult}
-use Rattle.result_form.specs.ResultShows.{line, next, kinds, upto, resultShows, showResult}
-use Rattle.result_form.proofs.Back.{Has, law, plain}
+use Rattle.result_form.specs.ResultForm.{resultSays, resultForm, resultAnswer, readResult}
+use Rattle.result_form.specs.ResultShows.{line, kinds, upto, resultShows, showResult}
+use Rattle.result_form.proofs.Back.{law, plain}
 use Rattle.result_form.proofs.Trips.{checked-passed, result-width}
 use Rattle.result_form.proofs.Answers.{answer-status, read-checked, read-same, exactly}
 use Rattle.old_texts.specs.Old.{nOld, textOld, oldResultSays, oldResultForm, oldReadResult, resultRefused}
-use Rattle.old_texts.proofs.Lines.{after-narrow, low-narrow, low-refused, same-unless, done-refused}
+use Rattle.old_texts.proofs.Lines.{after-narrow, low-narrow, low-refused}
+use Rattle.old_texts.proofs.Lines as lines
 
 narrower : Narrower resultForm oldResultSays textOld Fault.Unknowns 4
 unfolding oldResultSays
@@ -53,29 +53,23 @@ pub same-or : (t : List ℕ)
     ⊎ ((oldReadResult t ≡ resultRefused (Status.Refused Fault.Unknowns 4))
     ⊎ (oldReadResult t ≡ resultRefused (Status.Refused Fault.LongText 0)))
 unfolding readResult oldReadResult
-same-or t = go (old-answer t)
-  where
-    go : NarrowAnswer Fault.Unknowns 4 Fault.LongText (read oldResultForm t) (read resultForm t)
-        → (resultAnswer (read oldResultForm t) ≡ resultAnswer (read resultForm t))
-        ⊎ ((resultAnswer (read oldResultForm t) ≡ resultRefused (Status.Refused Fault.Unknowns 4))
-        ⊎ (resultAnswer (read oldResultForm t) ≡ resultRefused (Status.Refused Fault.LongText 0)))
-    go (NarrowAnswer.same e) = inl (ap resultAnswer e)
-    go (NarrowAnswer.faulty e) = inr (inl (ap resultAnswer e))
-    go (NarrowAnswer.tooLong e) = inr (inr (ap resultAnswer e))
+same-or = lines.same-or (read oldResultForm) (read resultForm) old-answer resultAnswer
 
 -- where it answers neither 1 nor 3
 pub same-otherwise : (t : List ℕ) → ((n : ℕ) → oldReadResult t .status ≡ Status.Refused Fault.LongText n → ⊥)
     → ((n : ℕ) → oldReadResult t .status ≡ Status.Refused Fault.Unknowns n → ⊥) → readResult t ≡ oldReadResult t
 unfolding readResult oldReadResult
-same-otherwise t long many =
-    let is = answer-status (read oldResultForm t) in
-    ap resultAnswer (same-unless (old-answer t) (λ n e. long n (is ∙ e)) (λ n e. many n (is ∙ e)))
+same-otherwise =
+    lines.same-otherwise (read oldResultForm) (read resultForm) old-answer resultAnswer (λ x. x .status) answer-status
+
+done-too : (t : List ℕ) → oldReadResult t .status ≡ Status.Done → readResult t ≡ oldReadResult t
+unfolding readResult oldReadResult
+done-too = lines.done-too (read oldResultForm) (read resultForm) old-answer resultAnswer (λ x. x .status) answer-status
 
 pub as-before : (t : List ℕ) (r : Result) → oldReadResult t ≡ record { status = Status.Done; result = r }
     → (readResult t ≡ record { status = Status.Done; result = r }) × (showResult r ≡ t)
 as-before t r e =
-    let done = ap (λ (x : ResultRead). x .status) e in
-    let now = same-otherwise t (λ n p. done-refused (sym done ∙ p)) (λ n p. done-refused (sym done ∙ p)) ∙ e in
+    let now = done-too t (ap (λ (x : ResultRead). x .status) e) ∙ e in
     (now, exactly t r .0 now .0)
 
 -- ---- a right text of more unknowns
@@ -84,23 +78,17 @@ module _ (r : Result) (passed : Passed resultShows kinds r) (many : nOld < r .n)
   abbrev stands : ResultLine → State Fault ResultLine Result
   stands k = State.at k (upto k r)
 
-  -- a line that is read
-  line-read : (k : ResultLine) → Has r k → resultEnd k ≡ false → resultShows .check k r ≡ Got.got tt
-      → step resultForm (stands k) (line k r) ≡ stands (next k)
-  unfolding step heard after
-  line-read k h o e = let a = law r k h o in rw (o, a .says (a .spelt e), e)
-
   first-read : step oldResultForm (stands ResultLine.Number) (line ResultLine.Number r) ≡ stands ResultLine.Verdict
   unfolding step oldResultSays
-  first-read = line-read ResultLine.Number tt refl (passed .0)
+  first-read = line-read resultForm resultShows r _ _ (law r ResultLine.Number tt refl) refl (passed .0)
 
   second-read : step oldResultForm (stands ResultLine.Verdict) (line ResultLine.Verdict r) ≡ stands ResultLine.Steps
   unfolding step oldResultSays
-  second-read = line-read ResultLine.Verdict tt refl (passed .1 .0)
+  second-read = line-read resultForm resultShows r _ _ (law r ResultLine.Verdict tt refl) refl (passed .1 .0)
 
   third-read : step oldResultForm (stands ResultLine.Steps) (line ResultLine.Steps r) ≡ stands ResultLine.Lo
   unfolding step oldResultSays
-  third-read = line-read ResultLine.Steps tt refl (passed .1 .1 .0)
+  third-read = line-read resultForm resultShows r _ _ (law r ResultLine.Steps tt refl) refl (passed .1 .1 .0)
 
   fourth-bad : step oldResultForm (stands ResultLine.Lo) (line ResultLine.Lo r) ≡ State.bad Fault.Unknowns 4
   unfolding step heard oldResultSays after

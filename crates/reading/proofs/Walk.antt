@@ -72,6 +72,12 @@ module _ {F L X : Type 0} (g : Form F L X) (w : Shows F L X) (q : X) where
       pub spelt : w .check k q ≡ Got.got tt → Spelt k
       pub has : w .check k q ≡ Got.got tt → Has (w .next k q)
 
+    -- a line that is shown, and passes, is read
+    pub line-read : {k : L} → Law k → g .last k ≡ false → w .check k q ≡ Got.got tt
+        → step g (State.at k (w .upto k q)) (w .line k q) ≡ State.at (w .next k q) (w .upto (w .next k q) q)
+    unfolding step heard after
+    line-read a left e = rw (left, a .says (a .spelt e), e)
+
     -- no check finds a fault, or all values can be spelled
     abbrev pub Ready : List L → Type 0
     Ready ks = Passed w ks q ⊎ ((k : L) → Has k → Spelt k)

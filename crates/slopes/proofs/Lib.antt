@@ -3,6 +3,7 @@ pub mod Degrees
 pub mod Cases
 pub mod Places
 pub mod Ranges
+pub mod Mixed
 pub mod Rows
 pub mod Live
 pub mod Factors

@@ -1,67 +1,31 @@
 -- F and S as a loop fills them, equation by equation, in the places of those that stood there before.
-use mathlib.Core.Path.{_≡_, refl, sym, _∙_}
-use mathlib.Core.Bool.{Bool, true, false, cond}
+use mathlib.Core.Path.{_≡_, refl, _∙_}
 use mathlib.Core.List.{List}
 use Prim.Native.Nat.{ℕ, _+_, _≤_, _<_}
 use native.Mathlib.Omega.{arith}
-use lib.Dec.{ltb}
 use lib.ListN.{set, replicate}
-use borrow.Author.Tests.{ltb-true, ltb-false, lt-ltb, le-ltb}
 use Rattle.sizes.specs.Sizes.{nMax}
 use Rattle.lists.specs.Loops.{tab}
-use Rattle.lists.proofs.Tab.{tab-cong}
 use Rattle.intervals.specs.declared.Interval.{Interval}
 use Rattle.intervals.specs.Interval.{zeroI}
 use Rattle.jobs.specs.declared.Equation.{Equation}
 use Rattle.slopes.specs.Terms.{equationOver, valuesOver, slopeRow, slopesOver}
-use Rattle.slopes.proofs.Rows.{tab-same, tab-put}
+use Rattle.slopes.proofs.Mixed.{tab-same, mixed, mixed-none, mixed-more, mixed-done}
 
 module _ {A : Type 0} (d : A) (n : ℕ) (new : ℕ → A) where
   -- n live places, the first i of them new
   pub record Renewed (i : ℕ) (xs : List A) : Type 0 where
     pub old : ℕ → A
-    pub is : xs ≡ tab nMax n d (λ k. cond (ltb k i) (new k) (old k))
+    pub is : xs ≡ tab nMax n d (mixed new old i)
 
-  -- where the first i places are new, and one more
-  mixed : (ℕ → A) → ℕ → ℕ → A
-  mixed old i k = cond (ltb k i) (new k) (old k)
-
-  has : (old : ℕ → A) (i k : ℕ) → k < i → mixed old i k ≡ new k
-  unfolding mixed
-  has old i k l = rw (lt-ltb k i l)
-
-  lacks : (old : ℕ → A) (i k : ℕ) → i ≤ k → mixed old i k ≡ old k
-  unfolding mixed
-  lacks old i k l = rw (le-ltb k i l)
-
-  other : (old : ℕ → A) (i k : ℕ) → (k ≡ i → ⊥) → mixed old i k ≡ mixed old (i + 1) k
-  other old i k ne = by (ltb k i) refl
-    where
-      past : i ≤ k → i + 1 ≤ k
-      past l = omega (arith, ne)
-
-      by : (b : Bool) → ltb k i ≡ b → mixed old i k ≡ mixed old (i + 1) k
-      by true e = let l = ltb-true k i e in has old i k l ∙ sym (has old (i + 1) k (omega arith))
-      by false e = let l = ltb-false k i e in lacks old i k l ∙ sym (lacks old (i + 1) k (past l))
-
-  pub renewed-start : {xs : List A} (old : ℕ → A) → xs ≡ tab nMax n d old → Renewed 0 xs
-  unfolding mixed
-  renewed-start old e = record {
-    old = old;
-    is = e ∙ tab-cong d nMax n old (mixed old 0) (λ k l. sym (lacks old 0 k (omega arith)));
-  }
+  pub renewed-none : {xs : List A} (old : ℕ → A) → xs ≡ tab nMax n d old → Renewed 0 xs
+  renewed-none old e = record { old = old; is = e ∙ mixed-none new old d nMax n }
 
   pub renewed-more : {i : ℕ} {xs : List A} → Renewed i xs → i < n → {v : A} → v ≡ new i → Renewed (i + 1) (set xs i v)
-  unfolding mixed
-  renewed-more {i} r l e = record {
-    old = r .old;
-    is = rw (r .is, e ∙ sym (has (r .old) (i + 1) i (omega arith)))
-        (tab-put d nMax n (mixed (r .old) i) (mixed (r .old) (i + 1)) i l (other (r .old) i));
-  }
+  renewed-more r l e = record { old = r .old; is = mixed-more new (r .old) d nMax n l (r .is) e }
 
   pub renewed-done : {i : ℕ} {xs : List A} → Renewed i xs → n ≤ i → xs ≡ tab nMax n d new
-  unfolding mixed
-  renewed-done {i} r h = r .is ∙ tab-cong d nMax n (mixed (r .old) i) new (λ k l. has (r .old) i k (omega arith))
+  renewed-done r h = r .is ∙ mixed-done new (r .old) d nMax n h
 
 -- no live place holds anything yet
 pub all-old : {A : Type 0} (d : A) (n : ℕ) → replicate nMax d ≡ tab nMax n d (λ k. d)
@@ -97,11 +61,11 @@ room-zero n = record {
 }
 
 module _ (n : ℕ) (q : ℕ → Equation) (M X : ℕ → Interval) {f : Row} {s : List Row} where
-  pub filled-start : Room n f s → Filled n 0 q M X f s
-  filled-start r = record {
+  pub filled-none : Room n f s → Filled n 0 q M X f s
+  filled-none r = record {
     few = omega arith;
-    values = renewed-start zeroI n _ (r .values) (r .values-are);
-    slopes = renewed-start zeroRow n _ (r .slopes) (r .slopes-are);
+    values = renewed-none zeroI n _ (r .values) (r .values-are);
+    slopes = renewed-none zeroRow n _ (r .slopes) (r .slopes-are);
   }
 
   module _ {i : ℕ} (h : Filled n i q M X f s) where

@@ -1,5 +1,5 @@
 -- image_box: m, then F and S, which are filled equation by equation, then K of them.
-use mathlib.Core.Path.{_≡_, _∙_}
+use mathlib.Core.Path.{_∙_}
 use Prim.Native.Nat.{_<_, _-_}
 use native.Mathlib.Omega.{arith}
 use borrow.Author.Needs.{needs}
@@ -8,7 +8,7 @@ use Rattle.intervals.specs.Places.{sideAt}
 use Rattle.jobs.specs.Places.{equationAt}
 use Rattle.step.specs.Step.{imageBox}
 use Rattle.step.proofs.Imaged.{m-in, asked, image-is}
-use Rattle.step.proofs.Filled.{Filled, room-zero, filled-start, filled-more, filled-values, filled-slopes}
+use Rattle.step.proofs.Filled.{Filled, room-zero, filled-none, filled-more, filled-values, filled-slopes}
 use Rattle.one_step.proofs.image_box.Statement.{statement}
 use Rattle.one_step.proofs.image_box.Tie as tie
 
@@ -19,7 +19,7 @@ abbrev μ-loop : tie.MeasureT-loop
 μ-loop c x n eqs m f₀ s₀ i₀ f s i = n - i
 
 loop-holds : tie.Need-loop-holds Inv-loop μ-loop
-loop-holds c = filled-start _ _ _ _ (room-zero _)
+loop-holds c = filled-none _ _ _ _ (room-zero _)
 
 mul-q : tie.Need-mul-q Inv-loop μ-loop
 mul-q c = let p = c .before .before .before .pre .box .places in omega arith

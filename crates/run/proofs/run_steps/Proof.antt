@@ -12,7 +12,7 @@ use Rattle.slopes.specs.Terms.{valuesOver, slopesOver}
 use Rattle.step.specs.Step.{imageBox}
 use Rattle.step.specs.Ranges.{StepIn}
 use Rattle.step.proofs.Imaged.{m-in, asked, image-is}
-use Rattle.step.proofs.Filled.{Filled, Room, room-zero, filled-start, filled-more}
+use Rattle.step.proofs.Filled.{Filled, Room, room-zero, filled-none, filled-more}
 use Rattle.step.proofs.Filled.{filled-values, filled-slopes, filled-room}
 use Rattle.run.specs.Run.{runOf}
 use Rattle.run.proofs.Turns.{turned, run-turn, run-end, next-box}
@@ -52,7 +52,7 @@ middles-requires c κs = c .before .loop .inv .1 .0 .box
 
 -- F and S
 loop2-holds : tie.Need-loop2-holds Inv-loop2 μ-loop2 Inv-loop μ-loop
-loop2-holds c = filled-start _ _ _ _ (c .before .before .loop .inv .0 .1)
+loop2-holds c = filled-none _ _ _ _ (c .before .before .loop .inv .0 .1)
 
 mul-q : tie.Need-mul-q Inv-loop2 μ-loop2 Inv-loop μ-loop
 mul-q c = let p = c .before .before .before .before .loop .inv .1 .0 .box .places in omega arith

@@ -1,5 +1,5 @@
 -- equations: one case for each kind.
-use mathlib.Core.Path.{_≡_, _∙_}
+use mathlib.Core.Path.{_∙_}
 use borrow.Author.Needs.{needs}
 use Rattle.systems.proofs.Systems.{equations-by, pin-by, parts-by}
 use Rattle.systems.proofs.equations.Statement.{statement}
