@@ -4,6 +4,7 @@ use streams::write_number;
 use streams::write_whole;
 
 // One more with each change that may answer a text otherwise than before. 2: a square can't be negative. 3: a pin line.
+// 4: six unknowns.
 pub fn version(fd: i32) -> bool {
     write_whole(fd, b"floodrafter 4\n")
 }
