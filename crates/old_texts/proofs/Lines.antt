@@ -38,7 +38,7 @@ after-narrow h (NarrowLine.same e) = NarrowLine.same (ap (λ x. after x h) e)
 after-narrow h (NarrowLine.faulty e) = NarrowLine.faulty (ap (λ x. after x h) e)
 
 -- one check, or the other, of what is read
-pub passing-narrow : {A : Type 0} (r : Got Fault A) (old new : A → Finding)
+passing-narrow : {A : Type 0} (r : Got Fault A) (old new : A → Finding)
     → ((x : A) → NarrowLine Fault.Unknowns (after (found (old x)) (λ u. x)) (after (found (new x)) (λ u. x)))
     → NarrowLine Fault.Unknowns (passing r (λ x. found (old x))) (passing r (λ x. found (new x)))
 unfolding passing

@@ -7,7 +7,8 @@ use mathlib.Core.Path.{_≡_, refl}
 use mathlib.Core.List.{List}
 use mathlib.Core.Logic.{_⊎_}
 use lib.ListN.{length}
-use Rattle.sizes.specs.Sizes.{mark, nMax, textMax, termsMax, stepsMax, numberMax, endMax, imageMax, entryMax, degreeMax}
+use Rattle.sizes.specs.Sizes.{mark, nMax, textMax, termsMax, degreeMax, stepsMax, numberMax}
+use Rattle.sizes.specs.Sizes.{endMax, imageMax, entryMax, depthMax}
 use Rattle.sizes.specs.Bounds.{valueMax, slopeMax, bMax, zMax}
 use Rattle.sizes.proofs.Sums as sums
 use Rattle.text.specs.Words.{nKey}
@@ -38,8 +39,8 @@ raised = (refl, refl)
 
 -- "All other sizes stay;"
 pub others-stay : (mark ≡ 65536) × (termsMax ≡ 16) × (degreeMax ≡ 3) × (stepsMax ≡ 1000) × (numberMax ≡ 999999999)
-    × (endMax ≡ 262144) × (imageMax ≡ 2 ^ 46) × (entryMax ≡ 4194304)
-others-stay = (refl, refl, refl, refl, refl, refl, refl, refl)
+    × (endMax ≡ 262144) × (imageMax ≡ 2 ^ 46) × (entryMax ≡ 4194304) × (depthMax ≡ 8)
+others-stay = (refl, refl, refl, refl, refl, refl, refl, refl, refl)
 
 -- "six products still sum inside 64 bits.": those of D, of B with its diagonal, and of E, with room to be rounded up
 pub d-fits : 6 * (entryMax * valueMax) ≤ 2 ^ 62
