@@ -7,7 +7,7 @@
 
 #include "peer_job.h"
 
-/* Enough for the longest result text, of 143 bytes. */
+/* Enough for the longest result text, of 159 bytes. */
 enum { RESULT_MAX = 160 };
 
 static uint8_t *put_bytes(uint8_t *p, const char *bytes, size_t len)
@@ -53,7 +53,8 @@ static size_t put_result(uint8_t *text, const struct job *job, const struct outc
 {
     uint8_t *p = PUT(text, "job=");
     p = put_number(p, job->number);
-    p = PUT(p, "\nverdict=");
+    /* "0 for a job run alone" */
+    p = PUT(p, "\nvisit=0\nverdict=");
     p = put_verdict(p, o->verdict);
     p = PUT(p, "\nsteps=");
     p = put_number(p, o->steps);

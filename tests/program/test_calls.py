@@ -61,7 +61,7 @@ class Commands(unittest.TestCase):
                 continue
             self.assertEqual((image.status, image.err, step.status, step.err), (0, "", 0, ""))
             self.assertEqual(step.out[:len(image.out)], image.out)
-            decided, (_, verdict, steps, *box) = step.out[len(image.out):].splitlines(), answer.splitlines()
+            decided, (_, _, verdict, steps, *box) = step.out[len(image.out):].splitlines(), answer.splitlines()
             if steps == b"steps=1":
                 self.assertEqual(decided, [verdict, *box])
             else:
@@ -77,11 +77,11 @@ class Commands(unittest.TestCase):
     def test_fault_of_a_file(self):
         ended = call("solve", RESULT_FILE)
         self.assertEqual(ended.status, 1)
-        self.assertEqual(ended.err, f"{RESULT_FILE}:2: fault 2: line 2 begins with verdict=, kind= is expected\n")
+        self.assertEqual(ended.err, f"{RESULT_FILE}:2: fault 2: line 2 begins with visit=, kind= is expected\n")
 
     def test_version(self):
         for word in ("version", "--version"):
-            self.assertEqual(call(word), (0, b"floodrafter 4\n", ""))
+            self.assertEqual(call(word), (0, b"floodrafter 5\n", ""))
 
     def test_help(self):
         page = call("help")
@@ -153,7 +153,7 @@ class Script(unittest.TestCase):
 
 def in_units(result):
     """A line for each unknown of a result text, in decimals that are exact."""
-    ends = [line.partition("=")[2].split(",") for line in result.splitlines()[3:]]
+    ends = [line.partition("=")[2].split(",") for line in result.splitlines()[4:]]
     units = [[format(Decimal(end) / 65_536, "f") for end in each] for each in ends]
     return "".join(f"unknown {number}: {low} to {high}\n" for number, (low, high) in enumerate(zip(*units), 1))
 

@@ -65,7 +65,7 @@ def stored():
 
 def uncut(result):
     """What depth 0 lists of a job with this result text."""
-    number, verdict, _, *ends = result.decode().splitlines()
+    number, _, verdict, _, *ends = result.decode().splitlines()
     word = {"verdict=none": "", "verdict=unique": "box=unique"}.get(verdict, "box=open")
     lines = [number, "boxes=1", word, *ends] if word else [number, "boxes=0"]
     return "".join(line + "\n" for line in lines).encode()

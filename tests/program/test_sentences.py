@@ -13,6 +13,7 @@ HI = "; expected hi= and one number"
 INV = "; expected inv= and one number"
 STEPS = "; expected steps= and a number"
 EQ = "; expected eq= and terms coefficient:exponents joined by commas, exponent digits a term: 1"
+VISIT = "; expected visit= and the visit's number"
 VERDICT = "; expected verdict=none, verdict=unique, verdict=stalled or verdict=spent"
 NUMBERS = "; expected lo= and numbers joined by commas"
 THREE = "; expected lo= and 3 numbers joined by commas"
@@ -88,19 +89,32 @@ JOB_FAULTS = [
 
 RESULT_FAULTS = [
     (1, "job=", 2, "the number is missing" + NUMBER),
-    (2, "verdict=yes", 2, "line 2 has another word" + VERDICT),
-    (3, "steps=01", 2, "the number begins with a zero and goes on: write it without that zero" + STEPS),
-    (4, "lo=", 2, "number 1 is missing" + NUMBERS),
-    (4, "lo=1;2", 2, "number 1 has a character that is no digit" + NUMBERS),
-    (5, "hi=1,2", 2, "n=1: 1 number expected, 2 found"),
-    (6, "lo=1", 2, "line 6 is one too many: the line before it is the last"),
-    (4, "lo=0,0,0,0,0,0,0", 3, "there are 1 to 6 unknowns, not 7"),
-    (4, "lo=0,0,0,0,0,0,0,0,0,0,0", 3, "there are 1 to 6 unknowns, not 11"),
+    (2, "visit=", 2, "the number is missing" + VISIT),
+    (2, "visit=07", 2, "the number begins with a zero and goes on: write it without that zero" + VISIT),
+    (2, "visit=-0", 2, "the number has a zero right after its minus: write 0 with no minus" + VISIT),
+    (2, "visit=-", 2, "the number has no digit after its minus" + VISIT),
+    (2, "visit=1,2", 2, "the number is followed by a comma, and one number is all" + VISIT),
+    (2, "visit=x", 2, "the number has a character that is no digit" + VISIT),
+    (2, "visit=1000000000", 2, "the number has over 9 digits" + VISIT),
+    (2, "visits=0", 2, "line 2 does not begin with its key" + VISIT),
+    (2, "Visit=0", 2, "line 2 has a capital letter: all are small" + VISIT),
+    (2, "", 2, "line 2 is empty" + VISIT),
+    (2, "kind=poly", 2, "line 2 begins with kind=, visit= is expected"),
+    (3, "visit=0", 2, "line 3 begins with visit=, verdict= is expected"),
+    (3, "verdict=yes", 2, "line 3 has another word" + VERDICT),
+    (4, "steps=01", 2, "the number begins with a zero and goes on: write it without that zero" + STEPS),
+    (5, "lo=", 2, "number 1 is missing" + NUMBERS),
+    (5, "lo=1;2", 2, "number 1 has a character that is no digit" + NUMBERS),
+    (6, "hi=1,2", 2, "n=1: 1 number expected, 2 found"),
+    (7, "lo=1", 2, "line 7 is one too many: the line before it is the last"),
+    (5, "lo=0,0,0,0,0,0,0", 3, "there are 1 to 6 unknowns, not 7"),
+    (5, "lo=0,0,0,0,0,0,0,0,0,0,0", 3, "there are 1 to 6 unknowns, not 11"),
     (1, "job=-1", 4, "the job's number is -1: it lies from 0 to 999999999"),
-    (4, "lo=262145", 4, "number 1 is 262145: ends lie from -262144 to 262144"),
-    (5, "hi=-262145", 4, "number 1 is -262145: ends lie from -262144 to 262144"),
-    (5, "hi=0", 5, "unknown 1: the high end 0 is below the low end 81919"),
-    (3, "steps=-1", 8, "steps is -1: it lies from 0 to 1000"),
+    (2, "visit=-1", 4, "the visit's number is -1: it lies from 0 to 999999999"),
+    (5, "lo=262145", 4, "number 1 is 262145: ends lie from -262144 to 262144"),
+    (6, "hi=-262145", 4, "number 1 is -262145: ends lie from -262144 to 262144"),
+    (6, "hi=0", 5, "unknown 1: the high end 0 is below the low end 81919"),
+    (4, "steps=-1", 8, "steps is -1: it lies from 0 to 1000"),
 ]
 
 # jobs of two to six unknowns, with lines that have several numbers
@@ -259,15 +273,21 @@ class Faults(unittest.TestCase):
 
     def test_missing_line(self):
         self.refuses("job", JOB[:JOB.index(b"eq=")], 2, 8, "line 8 is missing" + EQ)
-        self.refuses("result", RESULT[:RESULT.index(b"hi=")], 2, 5, "line 5 is missing" + HI)
+        self.refuses("result", RESULT[:RESULT.index(b"hi=")], 2, 6, "line 6 is missing" + HI)
+        self.refuses("result", RESULT[:RESULT.index(b"visit=")], 2, 2, "line 2 is missing" + VISIT)
         self.refuses("job", MODE[:MODE.index(b"lo=")], 2, 4, "line 4 is missing" + PIN_OR_LO)
         self.refuses("job", PINNED[:PINNED.index(b"lo=")], 2, 5, "line 5 is missing" + THREE)
 
     def test_line_left_out(self):
         self.refuses("job", JOB.replace(b"steps=8\n", b""), 2, 7, "line 7 begins with eq=, steps= is expected")
 
+    def test_old_results(self):
+        """"Old result texts are refused by 2, line 2." """
+        old = RESULT.replace(b"visit=0\n", b"")
+        self.refuses("result", old, 2, 2, "line 2 begins with verdict=, visit= is expected")
+
     def test_no_line_feed(self):
-        for text, command, line in ((JOB, "job", 8), (RESULT, "result", 5), (b"job=41", "job", 1),
+        for text, command, line in ((JOB, "job", 8), (RESULT, "result", 6), (b"job=41", "job", 1),
                                     (b"job=41\nkind=poly", "job", 2), (b"job=41\nkind=poly\nn=1", "job", 3),
                                     (PINNED[:PINNED.index(b"lo=")], "job", 4), (PINNED, "job", 11)):
             ended = text if text.endswith(b"\n") else text + b"\n"

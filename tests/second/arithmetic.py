@@ -25,6 +25,8 @@ MAX_DEGREE = 3                  # "each of total degree 0 to 3"
 MAX_IMAGE = 2 ** 46             # document 02, P7: "from -2^46 to 2^46"
 MAX_DEPTH = 8                   # document 02, P8: "Depth is 0 to 8"
 MAX_BOXES = 2 ** MAX_DEPTH      # "two to the power of the depth"
+MAX_VISIT = 999_999_999         # document 02, P12: "at most 999,999,999"
+ALONE = 0                       # "0 for a job run alone"
 
 KINDS = ("poly", "linear", "eigen")
 VERDICTS = ("none", "unique", "stalled", "spent")
@@ -33,7 +35,7 @@ VERDICTS = ("none", "unique", "stalled", "spent")
 # n row by row, lines holds n equations (poly) or n rows (linear, eigen).  pin counts
 # the coordinates of an eigenvector from 1; "other kinds ignore it".
 Job = namedtuple("Job", "job kind n lo hi inv steps lines pin", defaults=[0])
-Result = namedtuple("Result", "job verdict steps lo hi")
+Result = namedtuple("Result", "job visit verdict steps lo hi")
 
 
 # "The arithmetic"
@@ -255,4 +257,4 @@ def run(job):
     verdict, steps, box = None, 0, list(zip(job.lo, job.hi))
     for _, _, verdict, box in trace(job):
         steps += 1
-    return Result(job.job, verdict or "spent", steps, *ends_of(box))
+    return Result(job.job, ALONE, verdict or "spent", steps, *ends_of(box))

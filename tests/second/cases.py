@@ -7,8 +7,8 @@ first: the documents' examples and the places their readers get wrong.
 import itertools
 
 from answers import answer
-from arithmetic import (Job, KINDS, MARK, MAX_END, MAX_ENTRY, MAX_N, MAX_TERMS, Result,
-                        VERDICTS, ends_of)
+from arithmetic import (ALONE, Job, KINDS, MARK, MAX_END, MAX_ENTRY, MAX_N, MAX_TERMS,
+                        MAX_VISIT, Result, VERDICTS, ends_of)
 from damage import at_limits, damaged, every_spelling, lines_of
 from dice import Dice
 from halve_cases import fixed_halvings, random_halving
@@ -19,6 +19,7 @@ from pin_cases import fixed_pins, random_pin
 from size_cases import fixed_sizes
 from step_cases import fixed_steps, random_step
 from texts import job_text, result_text
+from visit_cases import fixed_visits
 
 JOB_41 = Job(41, "poly", 1, [65_536], [131_072], [21_845], 8,
              [[(65_536, (2,)), (-131_072, (0,))]])
@@ -84,6 +85,12 @@ def fixed():
             yield words, job_text(job)
     yield from fixed_halvings()
     yield from fixed_sizes()
+    yield from fixed_visits()
+
+
+def visit_number(dice):
+    """That of a job run alone, or any other, both ends often."""
+    return dice.pick([ALONE, ALONE, 1, 8, MAX_VISIT, dice.between(1, MAX_VISIT)])
 
 
 def random_result(dice):
@@ -93,7 +100,8 @@ def random_result(dice):
     size = dice.pick([0, 1, 9, MARK, MAX_END])
     ends = [sorted([dice.pick([size, -size, dice.around(size)]), dice.around(size)])
             for _ in range(n)]
-    return Result(job_number(dice), dice.pick(VERDICTS), allowance(dice), *ends_of(ends))
+    return Result(job_number(dice), visit_number(dice), dice.pick(VERDICTS), allowance(dice),
+                  *ends_of(ends))
 
 
 def random_case(dice):
@@ -162,7 +170,7 @@ def write_cases(seed, count, requests, answers):
     for request, text in cases(seed, count):
         lines = write_case(request, text, requests, answers)
         operation = request.split(" ")[0]
-        said = {"solve": lines[1], "decide": lines[0]}.get(operation, "right")
+        said = {"solve": lines[2], "decide": lines[0]}.get(operation, "right")
         kind = lines[0] if lines[0].startswith("fault") else f"{operation} {said}"
         mix[kind] = mix.get(kind, 0) + 1
     return mix

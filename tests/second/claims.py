@@ -1,6 +1,6 @@
 """What must hold of every accepted job, tried on random fraction points, of every text
-that arrives in parts, of every list of a job that is halved, and of every text beside what
-it was before P10.
+that arrives in parts, of every list of a job that is halved, of every text beside what it was
+before P10, and of every result text of before P12.
 
     claims.py [--seed S] [--count K]
 
@@ -30,7 +30,7 @@ it was before P10.
 - Halving (document 02, P8): every zero of the starting box lies in a listed box, each box
   listed as unique holds at most one, all lie in the starting box, and there are at most two
   to the power of the depth.
-- Old texts (document 02, P10): see old_claims.py.
+- Old texts (document 02, P10 and P12): see old_claims.py and visit_claims.py.
 """
 
 import argparse
@@ -49,6 +49,7 @@ from parts import Reader, cut
 from step_cases import against
 from steps import decision, image_of
 from texts import read_job, job_text
+from visit_claims import try_visits
 from zeros import job_with_zeros
 
 
@@ -259,7 +260,7 @@ def main():
     parser.add_argument("--count", type=int, default=1_000)
     given = parser.parse_args()
     tried = (try_claims(given.seed, given.count) + try_halvings(given.seed, given.count)
-             + try_old(given.seed, given.count))
+             + try_old(given.seed, given.count) + try_visits(given.seed, given.count))
     for name, times in sorted(tried.items()):
         print(f"{times:7} {name}")
     print("no breach")

@@ -1,7 +1,8 @@
 """What document 02, P10, wants of both texts beside the old program, tried on right and
 damaged ones.  claims.py calls it.
 
-The old program is seen as a reader: the same walks with the limits of before.
+The old program is seen as a reader: the same walks with the limits of before, over results as
+they stand now, with the visit line of P12.
 
 - Kept: "Stored texts of n up to 4 read as before and are written byte for byte the same": what
   the old program reads is read now with the same values, and written the same.
@@ -24,7 +25,7 @@ from jobs import pinned_job, random_job
 from texts import job_text, read, read_job, read_result, result_text
 from walks import walk_job, walk_result
 
-N_LINE = {"job": 3, "result": 4}    # the line that has n: its digit, or its list of so many
+N_LINE = {"job": 3, "result": 5}    # the line that has n: its digit, or its list of so many
 
 # A text of a sort, and what is told of it: values, or a fault's number and line.
 Both = namedtuple("Both", "sort text now old")

@@ -4,8 +4,8 @@ those, and texts about the greatest length, now and before.
 
 import itertools
 
-from arithmetic import (KINDS, MAX_END, MAX_ENTRY, MAX_N, MAX_TERMS, MAX_TEXT, OLD_N, OLD_TEXT,
-                        VERDICTS, Result, run)
+from arithmetic import (ALONE, KINDS, MAX_END, MAX_ENTRY, MAX_N, MAX_TERMS, MAX_TEXT, OLD_N,
+                        OLD_TEXT, VERDICTS, Result, run)
 from damage import lines_of, many_terms, replaced
 from dice import Dice
 from jobs import random_job, zero_job
@@ -64,12 +64,12 @@ def results():
     """Results of 4 to 6 unknowns; `lo` lists of 4 to 7 numbers, in their size and beyond it, with
     `hi` lists of as many, of one more and of one fewer."""
     for n, verdict in zip((OLD_N, *NEW), VERDICTS):
-        yield result_text(Result(n, verdict, n, [-MAX_END] * n, [MAX_END] * n))
+        yield result_text(Result(n, ALONE, verdict, n, [-MAX_END] * n, [MAX_END] * n))
     for low in (0, MAX_END + 1):
         for n in BESIDE:
             for other in (n - 1, n, n + 1):
                 lo, hi = joined([low] * n), joined([0] * other)
-                yield f"job=1\nverdict=none\nsteps=1\nlo={lo}\nhi={hi}\n".encode()
+                yield f"job=1\nvisit=0\nverdict=none\nsteps=1\nlo={lo}\nhi={hi}\n".encode()
 
 
 def lengths():
@@ -78,7 +78,7 @@ def lengths():
     for length in LENGTHS:
         *_, long_line = of_length(length)
         yield "job", long_line
-    right = result_text(Result(1, "none", 1, [0] * MAX_N, [0] * MAX_N))
+    right = result_text(Result(1, ALONE, "none", 1, [0] * MAX_N, [0] * MAX_N))
     for length in (OLD_TEXT + 1, MAX_TEXT, MAX_TEXT + 1):
         yield "result", right + b"x" * (length - len(right))
 

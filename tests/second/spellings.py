@@ -1,6 +1,6 @@
 """Spellings of numbers and words, right ones among wrong ones: what damage is made of."""
 
-from arithmetic import MAX_END, MAX_ENTRY, MAX_JOB, MAX_N, MAX_STEPS
+from arithmetic import MAX_END, MAX_ENTRY, MAX_JOB, MAX_N, MAX_STEPS, MAX_VISIT
 
 ODD_BYTES = [b"\0", b"\r", b"\n", b" ", b"\t", b"+", b"-", b"0", b"9", b",", b":",
              b"=", b".", b"x", b"\x7f", b"\x80", b"\xb2", b"\xff"]
@@ -18,6 +18,8 @@ WORDS = ["poly", "linear", "eigen", "Poly", "POLY", "pol", "polynomial", "", "po
 SPELLINGS = {
     b"job": ["-1", "-5", "-0", "0", str(MAX_JOB), str(MAX_JOB + 1), "-999999999", "", "041",
              "41 ", "4,1"],
+    b"visit": ["-1", "-0", "-", "0", "7", str(MAX_VISIT), str(MAX_VISIT + 1), "-999999999",
+               "9" * 20, "", "00", "07", "+7", "7 ", "7,7"],
     b"kind": WORDS,
     b"verdict": WORDS,
     b"n": ["", "00", "01", "10", "-1", "-0", "+1", "x", "1 ", "\xb2", *"0123456789"],
@@ -28,12 +30,14 @@ SPELLINGS = {
 # Well spelled, and wrong.
 WRONG = {
     b"job": ["-1", "-5", "-999999999"],
+    b"visit": ["-1", "-9", "-999999999"],
     b"n": ["0"] + [str(n) for n in range(MAX_N + 1, 10)],
     b"pin": ["0", "-1", *map(str, range(2, MAX_N + 2)), "10", "999999999", "-999999999"],
     b"steps": ["-1", str(MAX_STEPS + 1), "999999999", "-999999999"],
 }
 # The least and the greatest number of each line.
-LIMITS = {b"job": (0, MAX_JOB), b"n": (1, MAX_N), b"pin": (1, MAX_N - 1),
-          b"steps": (0, MAX_STEPS), b"lo": (-MAX_END, MAX_END), b"hi": (-MAX_END, MAX_END),
+LIMITS = {b"job": (0, MAX_JOB), b"visit": (0, MAX_VISIT), b"n": (1, MAX_N),
+          b"pin": (1, MAX_N - 1), b"steps": (0, MAX_STEPS),
+          b"lo": (-MAX_END, MAX_END), b"hi": (-MAX_END, MAX_END),
           b"inv": (-MAX_ENTRY, MAX_ENTRY), b"row": (-MAX_ENTRY, MAX_ENTRY),
           b"eq": (-MAX_ENTRY, MAX_ENTRY)}

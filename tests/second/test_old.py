@@ -10,7 +10,7 @@ import answers
 import old_claims
 import walks
 from answers import answer
-from arithmetic import KINDS, MAX_N, MAX_TEXT, OLD_N, OLD_TEXT, Result
+from arithmetic import KINDS, MAX_N, MAX_TEXT, OLD_N, OLD_TEXT
 from breach import Breach
 from cases import cases, fixed
 from damage import lines_of, whole
@@ -19,6 +19,7 @@ from old_claims import fault_of, old_result, read_both, try_old
 from size_cases import NEW, fixed_sizes
 from test_whole import Slips
 from texts import job_text, read, read_job, result_text
+from visit_cases import LONGEST
 from walks import terms_of, walk_job, walk_result
 
 FOUR, FIVE, SIX = (job_text(zero_job("poly", n, 0)) for n in (4, 5, 6))
@@ -32,7 +33,7 @@ def last_line(text, line):
 def result_of(*ends):
     """A result text of so many low and so many high ends."""
     lo, hi = (",".join(["0"] * count) for count in ends)
-    return f"job=1\nverdict=none\nsteps=1\nlo={lo}\nhi={hi}\n".encode()
+    return f"job=1\nvisit=0\nverdict=none\nsteps=1\nlo={lo}\nhi={hi}\n".encode()
 
 
 # A sort and a text; what is told of it before, and now; 0 where it is right.
@@ -57,10 +58,10 @@ TEXTS = [
     # a pin of 5 and of 6 unknowns
     ("job", job_text(zero_job("eigen", 6, 5)).replace(b"pin=5", b"pin=6"), (3, 3), (9, 4)),
     ("job", job_text(zero_job("eigen", 4, 3)).replace(b"pin=3", b"pin=5"), (9, 4), (9, 4)),
-    ("result", result_of(4, 4), 0, 0), ("result", result_of(5, 5), (3, 4), 0),
-    ("result", result_of(6, 6), (3, 4), 0), ("result", result_of(7, 7), (3, 4), (3, 4)),
-    ("result", result_of(4, 5), (2, 5), (2, 5)), ("result", result_of(5, 4), (3, 4), (2, 5)),
-    ("result", result_of(6, 7), (3, 4), (2, 5)), ("result", result_of(0, 0), (2, 4), (2, 4)),
+    ("result", result_of(4, 4), 0, 0), ("result", result_of(5, 5), (3, 5), 0),
+    ("result", result_of(6, 6), (3, 5), 0), ("result", result_of(7, 7), (3, 5), (3, 5)),
+    ("result", result_of(4, 5), (2, 6), (2, 6)), ("result", result_of(5, 4), (3, 5), (2, 6)),
+    ("result", result_of(6, 7), (3, 5), (2, 6)), ("result", result_of(0, 0), (2, 5), (2, 5)),
     *((sort, b"x" * length, before, now) for sort in ("job", "result")
       for length, before, now in ((2_048, (2, 1), (2, 1)), (2_049, (1, 0), (2, 1)),
                                   (4_096, (1, 0), (2, 1)), (4_097, (1, 0), (1, 0)))),
@@ -82,8 +83,7 @@ class Texts(unittest.TestCase):
         """No right text is too long for the old program: it is told 3."""
         jobs = [largest_job(kind) for kind in KINDS] + [largest_job("eigen")._replace(pin=1)]
         self.assertEqual(max(len(job_text(job)) for job in jobs), 2_023)
-        result = Result(999_999_999, "stalled", 1_000, [-262_144] * 6, [-262_144] * 6)
-        self.assertEqual(len(result_text(result)), 143)
+        self.assertEqual(len(result_text(LONGEST)), 159)
 
     def test_claims(self):
         tried = try_old(2, 2_500)
@@ -108,7 +108,7 @@ def shown_by(request, text):
         return [(words[0], f"{reply.partition('=')[0]}, lists of {lists}")]
     lines = text.decode("latin-1").split("\n")
     if operation == "result":
-        n = "".join(lines[3:4]).count(",") + 1
+        n = "".join(lines[4:5]).count(",") + 1
         return [(str(n), "result, " + (reply if reply.startswith("fault") else "right"))]
     n = "".join(lines[2:3]).partition("=")[2]
     if reply.startswith("fault"):
@@ -182,11 +182,11 @@ def first_four(text):
     return old_result(b"\n".join(lines))
 
 
-def breaks(name):
-    """Whether it is that claim that breaks on some thousand texts."""
+def breaks(name, tries=try_old, count=2_500):
+    """Whether it is that claim that breaks on so many texts."""
     def catcher():
         try:
-            try_old(1, 2_500)
+            tries(1, count)
         except Breach as breach:
             return str(breach).startswith(name + ":")
         return False

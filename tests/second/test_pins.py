@@ -224,7 +224,7 @@ class Cases(unittest.TestCase):
                     met.add((reply[0], reply[1]))
                 else:
                     met.add((operation, lines[2], lines[3]))
-                    met.add((operation, reply[1]))
+                    met.add((operation, reply[2]))
         wanted = {(2, line) for line in range(4, MAX_N + 10)} | {(9, 4), (5, 6), (8, 8)}
         wanted |= {(4, line) for line in (0, 5, 6, 7, *range(9, MAX_N + 9))} | {(5, 0)}
         for fault, line in wanted:

@@ -21,6 +21,7 @@ steps=8
 eq=65536:2,-131072:0
 """
 RESULT_41 = b"""job=41
+visit=0
 verdict=unique
 steps=1
 lo=81919
@@ -139,14 +140,18 @@ JOB_FAULTS = [                       # line, its spelling, fault
     (8, b"eq=" + b",".join([b"1:00"] * 16 + [b"4194305:00", b"x"]), 2),
 ]
 RESULT_FAULTS = [
-    (1, b"job=-1", 4), (2, b"verdict=Unique", 2), (2, b"verdict=", 2), (2, b"kind=poly", 2),
-    (3, b"steps=1001", 8), (3, b"steps=01", 2), (3, b"steps=-1", 8), (4, b"lo=", 2),
-    (4, b"lo=" + b",".join([b"0"] * (MAX_N + 1)), 3),
-    (4, b"lo=" + b",".join([b"0"] * MAX_N + [b"x"]), 2),
-    (4, b"lo=" + b",".join([b"0"] * MAX_N + [b"262145"]), 3),
-    (4, b"lo=262145", 4), (4, b"lo=-262144", 0), (5, b"hi=", 2), (5, b"hi=0,0", 2),
-    (5, b"hi=" + b",".join([b"0"] * (MAX_N + 1)), 2), (5, b"hi=262145", 4),
-    (5, b"hi=81918", 5), (5, b"hi=81919", 0), (5, b"hi=1,262145", 2),
+    (1, b"job=-1", 4), (2, b"visit=-1", 4), (2, b"visit=-0", 2), (2, b"visit=-", 2),
+    (2, b"visit=", 2), (2, b"visit=00", 2), (2, b"visit=07", 2), (2, b"visit=+1", 2),
+    (2, b"visit=999999999", 0), (2, b"visit=1000000000", 2), (2, b"visit=1", 0),
+    (2, b"visit=0,0", 2), (2, b"Visit=0", 2), (2, b"visits=0", 2), (2, b"kind=poly", 2),
+    (2, b"verdict=unique", 2), (3, b"verdict=Unique", 2), (3, b"verdict=", 2),
+    (3, b"visit=0", 2), (4, b"steps=1001", 8), (4, b"steps=01", 2), (4, b"steps=-1", 8),
+    (5, b"lo=", 2), (5, b"lo=" + b",".join([b"0"] * (MAX_N + 1)), 3),
+    (5, b"lo=" + b",".join([b"0"] * MAX_N + [b"x"]), 2),
+    (5, b"lo=" + b",".join([b"0"] * MAX_N + [b"262145"]), 3),
+    (5, b"lo=262145", 4), (5, b"lo=-262144", 0), (6, b"hi=", 2), (6, b"hi=0,0", 2),
+    (6, b"hi=" + b",".join([b"0"] * (MAX_N + 1)), 2), (6, b"hi=262145", 4),
+    (6, b"hi=81918", 5), (6, b"hi=81919", 0), (6, b"hi=1,262145", 2),
 ]
 
 
@@ -182,7 +187,7 @@ class Faults(Told):
                     self.assertEqual(answer(operation, text), text)
 
     def test_ends(self):
-        for operation, right, last in (("job", TWO, 9), ("result", RESULT_41, 5)):
+        for operation, right, last in (("job", TWO, 9), ("result", RESULT_41, 6)):
             self.told(operation, b"", 2, 1)
             self.told(operation, b"\n" + right, 2, 1)
             self.told(operation, right.replace(b"\n", b"\r\n"), 2, 1)
@@ -199,7 +204,7 @@ class Faults(Told):
                 self.told(operation, less, 2, last if at >= 7 else at + 1)
 
     def test_lengths(self):
-        for operation, right, last in (("job", TWO, 9), ("result", RESULT_41, 5)):
+        for operation, right, last in (("job", TWO, 9), ("result", RESULT_41, 6)):
             full = right + b"x" * (MAX_TEXT - len(right))
             self.told(operation, full, 2, last + 1)
             self.told(operation, full + b"x", 1, 0)
@@ -227,9 +232,12 @@ class Faults(Told):
                 self.raised(fault, line, entry, job)
             self.assertEqual(buffer, b"old")
         for result, fault, line in [
-                (Result(1, "none", 1, [], []), 2, 4),
-                (Result(1, "spent", -1, [], []), 8, 3),
-                (Result(1, "none", 1, [0] * (MAX_N + 1), [0] * (MAX_N + 1)), 3, 4)]:
+                (Result(1, 1, "none", 1, [], []), 2, 5),
+                (Result(1, 1, "spent", -1, [], []), 8, 4),
+                (Result(1, -1, "spent", -1, [], []), 4, 2),
+                (Result(1, 10**9, "one", 1, [0], [0]), 4, 2),
+                (Result(10**9, 10**9, "none", 1, [0], [0]), 4, 1),
+                (Result(1, 1, "none", 1, [0] * (MAX_N + 1), [0] * (MAX_N + 1)), 3, 5)]:
             self.raised(fault, line, write_result, result, bytearray(999))
 
     def test_buffers(self):

@@ -69,15 +69,15 @@ class Cases(unittest.TestCase):
             if operation == "decide":
                 met.add((name, reply[0]))
             if operation == "solve" and reply[0].startswith("job="):
-                met.add((text.split(b"\n")[1].decode(), reply[1]))
+                met.add((text.split(b"\n")[1].decode(), reply[2]))
         wanted = {("job", 2, line) for line in range(1, MAX_N + 9)}
         wanted |= {("job", 4, line) for line in (1, 4, 5, 6)}
         wanted |= {("job", fault, line) for fault in (4, 6)
                    for line in range(8, MAX_N + 8)}
         wanted |= {("job", 1, 0), ("job", 3, 3), ("job", 5, 5), ("job", 8, 7)}
-        wanted |= {("result", 2, line) for line in range(1, 7)}
-        wanted |= {("result", 4, line) for line in (1, 4, 5)}
-        wanted |= {("result", 1, 0), ("result", 3, 4), ("result", 5, 5), ("result", 8, 3)}
+        wanted |= {("result", 2, line) for line in range(1, 8)}
+        wanted |= {("result", 4, line) for line in (1, 2, 5, 6)}
+        wanted |= {("result", 1, 0), ("result", 3, 5), ("result", 5, 6), ("result", 8, 4)}
         wanted |= {("image", 4, 0), ("image", 5, 0), ("image", 4, 4), ("image", 5, 5)}
         wanted |= {("decide", fault, 0) for fault in (3, 4, 5)}
         for name, fault, line in wanted:

@@ -1,4 +1,4 @@
-"""The job text and the result text of document 01, read and written."""
+"""The job text and the result text of documents 01 and 02, read and written."""
 
 from arithmetic import MAX_TEXT, run
 from walks import FromLines, check, demand, walk_job, walk_result
@@ -49,8 +49,9 @@ def job_text(job):
 def result_text(result):
     """The text of a result's values, or a Fault of the values."""
     check(walk_result, result)
-    return (f"job={result.job}\nverdict={result.verdict}\nsteps={result.steps}\n"
-            f"lo={joined(result.lo)}\nhi={joined(result.hi)}\n").encode("ascii")
+    lines = [f"job={result.job}", f"visit={result.visit}", f"verdict={result.verdict}",
+             f"steps={result.steps}", f"lo={joined(result.lo)}", f"hi={joined(result.hi)}"]
+    return "".join(line + "\n" for line in lines).encode("ascii")
 
 
 def write_into(buffer, text):

@@ -7,7 +7,8 @@ n play no part", and the pin of a polynomial or linear job too, for "other kinds
 it"; here only live places are kept.
 """
 
-from arithmetic import MAX_END, MAX_ENTRY, MAX_JOB, MAX_N, MAX_STEPS, MAX_TERMS, Job, Result
+from arithmetic import (MAX_END, MAX_ENTRY, MAX_JOB, MAX_N, MAX_STEPS, MAX_TERMS, MAX_VISIT, Job,
+                        Result)
 from cases import T11, T12
 from texts import solve, write_job, write_result
 from walks import Fault
@@ -19,7 +20,7 @@ LEAST, MOST = -2 ** 63, 2 ** 64 - 1     # what a place of the product's values c
 POLY = Job(41, "poly", 2, [65_536, 0], [131_072, 131_072], [21_845, 0, 0, 65_536], 8,
            [[(65_536, (2, 0)), (-131_072, (0, 0))], [(65_536, (0, 1)), (-65_536, (0, 0))]])
 PINNED = T12._replace(pin=1)
-RESULT = Result(41, "stalled", MAX_STEPS, [-3, 0], [3, 0])
+RESULT = Result(41, 7, "stalled", MAX_STEPS, [-3, 0], [3, 0])
 
 
 def ends(values, lo, hi):
@@ -107,6 +108,11 @@ JOBS = [
 RESULTS = [
     ("result", RESULT),
     ("result number 1000000000", RESULT._replace(job=MAX_JOB + 1)),
+    ("result visit 999999999", RESULT._replace(visit=MAX_VISIT)),
+    ("result visit 1000000000", RESULT._replace(visit=MAX_VISIT + 1)),
+    ("result visit at most", RESULT._replace(visit=MOST)),
+    ("result number and visit", RESULT._replace(job=MAX_JOB + 1, visit=MAX_VISIT + 1)),
+    ("result visit and steps", RESULT._replace(visit=MAX_VISIT + 1, steps=MAX_STEPS + 1)),
     ("result steps 1001", RESULT._replace(steps=MAX_STEPS + 1)),
     ("result n 0", RESULT._replace(lo=[], hi=[])),
     (f"result n {MAX_N + 1}", RESULT._replace(lo=[0] * (MAX_N + 1), hi=[0] * (MAX_N + 1))),
@@ -119,7 +125,7 @@ ROOMS = [                           # a writer, values, and the bytes of the len
     (write_job, POLY, 122), (write_job, POLY, 121), (write_job, POLY, 1),
     (write_job, POLY._replace(n=MAX_N + 1), 1),
     (write_job, PINNED, 123), (write_job, PINNED, 122),
-    (write_result, RESULT, 49), (write_result, RESULT, 48),
+    (write_result, RESULT, 57), (write_result, RESULT, 56),
     (write_result, RESULT._replace(lo=[], hi=[]), 1),
 ]
 

@@ -1,5 +1,5 @@
-"""The lines of the job text and the result text of document 01, with the pin line of
-document 02, P2, and the fault numbers.
+"""The lines of the job text and the result text of document 01, with the pin line (P2) and
+the visit line (P12) of document 02, and the fault numbers.
 
 A walk asks for its lines, one after another, each by its key and its spelling, and gives
 the values of them all.  One walk serves a text, read at once or in parts, and values
@@ -12,7 +12,7 @@ import re
 from contextlib import contextmanager
 
 from arithmetic import (Job, Result, KINDS, VERDICTS, MAX_N, MAX_STEPS, MAX_JOB,
-                        MAX_END, MAX_ENTRY, MAX_TERMS, MAX_DEGREE)
+                        MAX_VISIT, MAX_END, MAX_ENTRY, MAX_TERMS, MAX_DEGREE)
 
 # "an optional minus, 1 to 9 digits, no leading zero, no minus zero"
 NUMBER = "(?:0|-?[1-9][0-9]{0,8})"
@@ -220,9 +220,12 @@ def walk_job(max_n=MAX_N):
 
 
 def walk_result(max_n=MAX_N):
-    """The lines of a result: job, verdict, steps, lo, hi.  n is 1 to max_n."""
+    """The lines of a result: job, visit, verdict, steps, lo, hi.  n is 1 to max_n."""
     job = yield "job", number
     within([job], 0, MAX_JOB)
+    # "`visit=` as second line (0 for a job run alone, at most 999,999,999, else 4)"
+    visit = yield "visit", number
+    within([visit], 0, MAX_VISIT)
     verdict = yield "verdict", word
     demand(verdict in VERDICTS, 2)
     steps = yield "steps", number
@@ -237,4 +240,4 @@ def walk_result(max_n=MAX_N):
     demand(len(hi) == len(lo), 2)
     within(hi, -MAX_END, MAX_END)
     in_order(lo, hi)
-    return Result(job, verdict, steps, lo, hi)
+    return Result(job, visit, verdict, steps, lo, hi)

@@ -17,10 +17,17 @@ use jobs::Result;
 use jobs::ResultLine;
 use jobs::lines::result_line_number;
 use sizes::N;
+use sizes::VISIT;
 ghost use mathlib.Core.Path.{_≡_};
 ghost use Rattle.faults.specs.Checks.{onLine};
 ghost use Rattle.jobs.specs.Lines.{resultNumber};
-ghost use Rattle.checks.specs.CheckResult.{countCheck, countedCheck, checkResult};
+ghost use Rattle.checks.specs.CheckResult.{visitCheck, countCheck, countedCheck, checkResult};
+
+fn visit_check(visit: u64) -> Finding
+    ensures { λ r. ⌜ r ≡ visitCheck visit ⌝ }
+{
+    bad_unless(visit <= VISIT, Fault::Beyond)
+}
 
 pub fn count_check(n: usize) -> Finding
     ensures { λ r. ⌜ r ≡ countCheck n ⌝ }
@@ -55,9 +62,10 @@ pub fn check_result(r: Result) -> Status
     let lo = r.lo;
     let hi = r.hi;
     let number = numbered(number_check(r.number), ResultLine::Number);
+    let visit = numbered(visit_check(r.visit), ResultLine::Visit);
     let steps = numbered(steps_check(r.steps), ResultLine::Steps);
     let low = numbered(counted_check(n, lo), ResultLine::Lo);
-    let before = and_then(number, and_then(steps, low));
+    let before = and_then(number, and_then(visit, and_then(steps, low)));
     if is_bad(before) {
         return before;
     }

@@ -11,7 +11,7 @@ use Rattle.jobs.specs.declared.Result.{Result}
 use Rattle.jobs.specs.declared.ResultLine.{ResultLine}
 use Rattle.reading.specs.Got.{Blamed}
 use Rattle.reading.proofs.Blamed.{blamed-fault, blamed-either, blamed-after}
-use Rattle.lines.proofs.Faults.{OfLine, spelling, number-of-line, kind-of-line, unknowns-of-line}
+use Rattle.lines.proofs.Faults.{OfLine, spelling, number-of-line, visit-of-line, kind-of-line, unknowns-of-line}
 use Rattle.lines.proofs.Faults.{pin-of-line, low-of-line, high-of-line, inverse-of-line, steps-of-line}
 use Rattle.lines.proofs.Faults.{equation-of-line, sided-of-line, row-of-line, verdict-of-line, any-low-of-line}
 use Rattle.job_form.specs.JobForm.{systemSays, jobSays}
@@ -41,6 +41,7 @@ job-says JobLine.End j l = blamed-fault Fault.Spelling spelling
 pub result-says : (k : ResultLine) (r : Result) (l : List ℕ) → Blamed OfLine (resultSays k r l)
 unfolding resultSays
 result-says ResultLine.Number r l = blamed-after _ _ (number-of-line l)
+result-says ResultLine.Visit r l = blamed-after _ _ (visit-of-line l)
 result-says ResultLine.Verdict r l = blamed-after _ _ (verdict-of-line l)
 result-says ResultLine.Steps r l = blamed-after _ _ (steps-of-line l)
 result-says ResultLine.Lo r l = blamed-after _ _ (any-low-of-line l)

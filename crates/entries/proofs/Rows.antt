@@ -7,7 +7,7 @@ use native.Mathlib.Omega.{arith}
 use lib.Dec.{eqb, leb, ltb}
 use lib.IntN.{ℤ, pos}
 use borrow.Author.Tests.{ltb-true, ltb-false, eqb-true, eqb-false, le-leb, lt-leb}
-use Rattle.sizes.specs.Sizes.{nMax, stepsMax, numberMax, endMax, imageMax}
+use Rattle.sizes.specs.Sizes.{nMax, stepsMax, numberMax, visitMax, endMax, imageMax}
 use Rattle.faults.specs.Words.{faultNumber}
 use Rattle.faults.specs.Checks.{badUnless, onLine, andThen, linesOf}
 use Rattle.faults.proofs.Laws.{line-first, fine-skips, then-assoc}
@@ -15,7 +15,7 @@ use Rattle.jobs.specs.Lines.{pinLines, systemNumber}
 use Rattle.checks.specs.Checks.{numberCheck, unknownsCheck, pinCheck, lowCheck, highCheck, inverseCheck, stepsCheck}
 use Rattle.checks.specs.Checks.{equationCheck, rowCheck, sidedCheck, systemCheck, lineCheck}
 use Rattle.checks.specs.Checks.{jobLineStatus, systemLines, headLines, bodyLines, checkJob}
-use Rattle.checks.specs.CheckResult.{countCheck, countedCheck, resultCheck, resultLineStatus, checkResult}
+use Rattle.checks.specs.CheckResult.{visitCheck, countCheck, countedCheck, resultCheck, resultLineStatus, checkResult}
 use Rattle.faults.specs.declared.Fault.{Fault}
 use Rattle.halving.specs.Halving.{depthStatus, roomStatus, halveStatus}
 use Rattle.one_step.specs.OneStep.{endsCheck, imageStatus, decideCheck, decideStatus}
@@ -119,13 +119,21 @@ none n = by (eqb n 0) refl
         some h = omega arith
 
 pub result-tells : (r : Result) → Tells (resultRows r) (checkResult r)
-unfolding checkResult resultLineStatus resultCheck countedCheck countCheck numberCheck stepsCheck lowCheck highCheck
+unfolding
+    checkResult resultLineStatus resultCheck visitCheck countedCheck countCheck numberCheck stepsCheck lowCheck
+    highCheck
 result-tells r =
-    rw (← over (r .number) numberMax, ← over (r .steps) stepsMax, ← none (r .n), ← over (r .n) nMax)
+    rw (
+      ← over (r .number) numberMax,
+      ← over (r .visit) visitMax,
+      ← over (r .steps) stepsMax,
+      ← none (r .n),
+      ← over (r .n) nMax,
+    )
     (rw (fine-skips, line-first, line-first, line-first, then-assoc, then-assoc)
-    (tell-row _ Fault.Beyond 1 (tell-row _ Fault.Steps 3
-    (tell-row _ Fault.Spelling 4 (tell-row _ Fault.Unknowns 4 (tell-row _ Fault.Beyond 4
-    (tell-row _ Fault.Beyond 5 (tell-one _ Fault.Crossed 5))))))))
+    (tell-row _ Fault.Beyond 1 (tell-row _ Fault.Beyond 2 (tell-row _ Fault.Steps 4
+    (tell-row _ Fault.Spelling 5 (tell-row _ Fault.Unknowns 5 (tell-row _ Fault.Beyond 5
+    (tell-row _ Fault.Beyond 6 (tell-one _ Fault.Crossed 6)))))))))
 
 -- ---- a box and an image handed in
 ends-tells : (n : ℕ) (most : ℤ) (e : Ends) → Tells (endsRows n most e) (onLine (endsCheck n most e) 0)

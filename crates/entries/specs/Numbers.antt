@@ -7,7 +7,7 @@ use mathlib.Core.List.{List, [], _∷_, _++_}
 use lib.Dec.{eqb, ltb, leb}
 use lib.IntN.{ℤ, pos, natAbs}
 use lib.ListN.{length, getD}
-use Rattle.sizes.specs.Sizes.{nMax, stepsMax, numberMax, endMax, entryMax, imageMax}
+use Rattle.sizes.specs.Sizes.{nMax, stepsMax, numberMax, visitMax, endMax, entryMax, imageMax}
 use Rattle.jobs.specs.Places.{equationAt, rowAt}
 use Rattle.term_checks.specs.Ranges.{isWithin, allWithin, allOrdered}
 use Rattle.jobs.specs.Lines.{pinLines, systemNumber}
@@ -97,17 +97,18 @@ jobRows j =
     ∷ row 3 3 (not (goodUnknowns (j .head .n)))
     ∷ (pinRows (j .head .kind) j ++ boxRows j)
 
--- a result's lines are job, verdict, steps, lo, hi: "an empty list (n = 0 in values) is fault 2", one of over 6
--- numbers, since P10, fault 3
+-- a result's lines are job, visit, verdict, steps, lo, hi. P12: the visit is "at most 999,999,999, else 4"; "an empty
+-- list (n = 0 in values) is fault 2", one of over 6 numbers, since P10, fault 3
 abbrev pub resultRows : Result → List Row
 resultRows r =
     row 1 4 (ltb numberMax (r .number))
-    ∷ row 3 8 (ltb stepsMax (r .steps))
-    ∷ row 4 2 (eqb (r .n) 0)
-    ∷ row 4 3 (ltb nMax (r .n))
-    ∷ row 4 4 (not (goodEnds (r .lo) (r .n)))
-    ∷ row 5 4 (not (goodEnds (r .hi) (r .n)))
-    ∷ row 5 5 (not (allOrdered (r .lo) (r .hi) (r .n)))
+    ∷ row 2 4 (ltb visitMax (r .visit))
+    ∷ row 4 8 (ltb stepsMax (r .steps))
+    ∷ row 5 2 (eqb (r .n) 0)
+    ∷ row 5 3 (ltb nMax (r .n))
+    ∷ row 5 4 (not (goodEnds (r .lo) (r .n)))
+    ∷ row 6 4 (not (goodEnds (r .hi) (r .n)))
+    ∷ row 6 5 (not (allOrdered (r .lo) (r .hi) (r .n)))
     ∷ []
 
 -- ---- P7: a box and an image handed in, all with line 0

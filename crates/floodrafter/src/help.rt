@@ -4,9 +4,9 @@ use streams::write_number;
 use streams::write_whole;
 
 // One more with each change that may answer a text otherwise than before. 2: a square can't be negative. 3: a pin line.
-// 4: six unknowns.
+// 4: six unknowns. 5: the visit line of a result.
 pub fn version(fd: i32) -> bool {
-    write_whole(fd, b"floodrafter 4\n")
+    write_whole(fd, b"floodrafter 5\n")
 }
 
 pub fn commands(fd: i32) -> bool {

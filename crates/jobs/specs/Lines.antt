@@ -59,14 +59,15 @@ LineFits JobLine.Steps h = Unit {0}
 LineFits (JobLine.System i) h = i ≤ nMax
 LineFits JobLine.End h = h .n ≤ nMax
 
--- the order of a result's lines: job, verdict, steps, lo, hi
+-- the order of a result's lines: job, then, since P12, visit "as second line", verdict, steps, lo, hi
 abbrev pub resultNumber : ResultLine → ℕ
 resultNumber ResultLine.Number = 1
-resultNumber ResultLine.Verdict = 2
-resultNumber ResultLine.Steps = 3
-resultNumber ResultLine.Lo = 4
-resultNumber ResultLine.Hi = 5
-resultNumber ResultLine.End = 6
+resultNumber ResultLine.Visit = 2
+resultNumber ResultLine.Verdict = 3
+resultNumber ResultLine.Steps = 4
+resultNumber ResultLine.Lo = 5
+resultNumber ResultLine.Hi = 6
+resultNumber ResultLine.End = 7
 
 -- back from a number to its line: the number of `line` is k, if any line of that head has it
 abbrev pub JobNumbered : ℕ → Head → JobLine → Type 0

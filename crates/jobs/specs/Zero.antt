@@ -37,6 +37,7 @@ noJob = record { head = zeroHead; ends = zeroEnds; inv = replicate nMax zeroRow;
 abbrev pub noResult : Result
 noResult = record {
   number = 0;
+  visit = 0;
   verdict = Verdict.None;
   steps = 0;
   n = 0;

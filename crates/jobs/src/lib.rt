@@ -84,9 +84,10 @@ pub enum Verdict {
     Spent,
 }
 
-// What a run answers, and what a result text says.
+// What a run answers, and what a result text says. The visit is 0 "for a job run alone".
 pub struct Result {
     pub number: u64,
+    pub visit: u64,
     pub verdict: Verdict,
     pub steps: u64,
     pub n: usize,
@@ -97,6 +98,7 @@ pub struct Result {
 // The kinds of lines of a result text, in their order; End where no line is left.
 pub enum ResultLine {
     Number,
+    Visit,
     Verdict,
     Steps,
     Lo,

@@ -87,11 +87,12 @@ pub fn result_line_number(k: ResultLine) -> u64
 {
     match k {
         ResultLine::Number => 1,
-        ResultLine::Verdict => 2,
-        ResultLine::Steps => 3,
-        ResultLine::Lo => 4,
-        ResultLine::Hi => 5,
-        ResultLine::End => 6,
+        ResultLine::Visit => 2,
+        ResultLine::Verdict => 3,
+        ResultLine::Steps => 4,
+        ResultLine::Lo => 5,
+        ResultLine::Hi => 6,
+        ResultLine::End => 7,
     }
 }
 
@@ -140,6 +141,9 @@ pub fn result_line_of(line: u64) -> ResultLine
 {
     if line <= result_line_number(ResultLine::Number) {
         return ResultLine::Number;
+    }
+    if line <= result_line_number(ResultLine::Visit) {
+        return ResultLine::Visit;
     }
     if line <= result_line_number(ResultLine::Verdict) {
         return ResultLine::Verdict;

@@ -89,6 +89,7 @@ pub fn no_result() -> Result
 {
     Result {
         number: 0,
+        visit: 0,
         verdict: Verdict::None,
         steps: 0,
         n: 0,

@@ -11,6 +11,7 @@ use scan::lines::count_at;
 use scan::lines::key_at;
 use sizes::NUMBER;
 use sizes::STEPS;
+use sizes::VISIT;
 use term_checks::ranges::one_to;
 use term_read::digit_at;
 use text::Count;
@@ -25,7 +26,7 @@ ghost use Rattle.scan.specs.Lines.{noFeed, lineOf};
 ghost use Rattle.reading.specs.Got.{Got, after};
 ghost use Rattle.reading.specs.NumberLines.{countLine, counted};
 ghost use Rattle.lines.specs.Found.{found};
-ghost use Rattle.lines.specs.Lines.{numberOf, stepsOf, unknownsOf, writtenPin, pinOf};
+ghost use Rattle.lines.specs.Lines.{numberOf, visitOf, stepsOf, unknownsOf, writtenPin, pinOf};
 ghost use Rattle.line_read.specs.At.{said, onward, countAt, smallAt};
 
 fn no_count(f: Fault) -> CountLine
@@ -67,6 +68,13 @@ pub fn number_line(text: &[u8], from: usize) -> CountLine
     ensures { λ r. ⌜ r ≡ countAt (said numberOf (now (text .entry)) from) (onward (now (text .entry)) from) ⌝ }
 {
     count_line(text, from, b"job=", NUMBER, Fault::Beyond)
+}
+
+pub fn visit_line(text: &[u8], from: usize) -> CountLine
+    requires { ⌜ from ≤ length (now text) ⌝ }
+    ensures { λ r. ⌜ r ≡ countAt (said visitOf (now (text .entry)) from) (onward (now (text .entry)) from) ⌝ }
+{
+    count_line(text, from, b"visit=", VISIT, Fault::Beyond)
 }
 
 pub fn steps_line(text: &[u8], from: usize) -> CountLine

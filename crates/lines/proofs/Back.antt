@@ -9,16 +9,16 @@ use lib.Seq.{getD-at}
 use lib.IntN.{ℤ, pos}
 use lib.Dec.{leb}
 use borrow.Author.Tests.{le-leb, lt-leb, le-ltb, lt-ltb}
-use Rattle.sizes.specs.Sizes.{nMax, numberMax, stepsMax}
+use Rattle.sizes.specs.Sizes.{nMax, numberMax, visitMax, stepsMax}
 use Rattle.lists.proofs.Tab.{length-tab, tab-cong}
 use Rattle.digits.proofs.Cases.{either}
 use Rattle.text.specs.Lists.{placesMax, showList, Small}
-use Rattle.text.specs.Words.{loKey, hiKey, invKey, rowKey, jobKey, stepsKey}
+use Rattle.text.specs.Words.{loKey, hiKey, invKey, rowKey, jobKey, visitKey, stepsKey}
 use Rattle.faults.specs.declared.Fault.{Fault}
 use Rattle.faults.specs.declared.Finding.{Finding}
 use Rattle.faults.specs.Checks.{firstOf, badUnless}
 use Rattle.checks.specs.Checks.{lowCheck, highCheck, inverseCheck, rowCheck, sidedCheck, numberCheck, stepsCheck}
-use Rattle.checks.specs.CheckResult.{countedCheck}
+use Rattle.checks.specs.CheckResult.{visitCheck, countedCheck}
 use Rattle.jobs.specs.declared.Row.{Row}
 use Rattle.reading.specs.Got.{Got, after, passing}
 use Rattle.reading.specs.NumberLines.{placed, rowLine, countLine}
@@ -26,7 +26,7 @@ use Rattle.reading.proofs.NumberLines.{first-all, list-line-none, list-line-bac
 use Rattle.digits.specs.Number.{digitsMax}
 use Rattle.lines.specs.Found.{found}
 use Rattle.lines.specs.Lines.{lowOf, anyLowOf, highOf, inverseOf, rowOf, Sided, liveSided, sidedBy, sidedOf}
-use Rattle.lines.specs.Lines.{numberOf, stepsOf}
+use Rattle.lines.specs.Lines.{numberOf, visitOf, stepsOf}
 use Rattle.lines.specs.Places.{cells, liveRows}
 use Rattle.lines.specs.Texts.{rowText, matrixList, inverseText, sidedText, countText}
 use Rattle.lines.proofs.Checks.{count-none, count-over, live-at, low-live, high-live, row-live, sided-live}
@@ -46,6 +46,11 @@ pub number-back : (m : ℕ) → m < 10 ^ digitsMax
     → numberOf (countText jobKey m) ≡ after (found (numberCheck m)) (λ u. m)
 unfolding numberOf numberCheck
 number-back = count-back Fault.Beyond jobKey numberMax
+
+pub visit-back : (m : ℕ) → m < 10 ^ digitsMax
+    → visitOf (countText visitKey m) ≡ after (found (visitCheck m)) (λ u. m)
+unfolding visitOf visitCheck
+visit-back = count-back Fault.Beyond visitKey visitMax
 
 pub steps-back : (m : ℕ) → m < 10 ^ digitsMax
     → stepsOf (countText stepsKey m) ≡ after (found (stepsCheck m)) (λ u. m)

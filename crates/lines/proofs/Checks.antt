@@ -7,7 +7,7 @@ use mathlib.Core.Bool.{true}
 use lib.ListN.{getD}
 use lib.IntN.{ℤ, pos, natAbs}
 use borrow.Author.Tests.{le-leb, lt-leb, leb-true}
-use Rattle.sizes.specs.Sizes.{nMax, numberMax, stepsMax, endMax, entryMax}
+use Rattle.sizes.specs.Sizes.{nMax, numberMax, visitMax, stepsMax, endMax, entryMax}
 use lib.Signed.{leZ}
 use Rattle.lists.proofs.All.{all-cong}
 use Rattle.lists.proofs.Tab.{getD-tab}
@@ -22,7 +22,7 @@ use Rattle.term_checks.proofs.RangeLaws.{is-within, all-within}
 use Rattle.faults.specs.declared.Finding.{Finding}
 use Rattle.faults.specs.Checks.{badUnless, firstOf}
 use Rattle.checks.specs.Checks.{numberCheck, stepsCheck, lowCheck, highCheck, rowCheck, sidedCheck}
-use Rattle.checks.specs.CheckResult.{countCheck, countedCheck}
+use Rattle.checks.specs.CheckResult.{visitCheck, countCheck, countedCheck}
 use Rattle.faults.proofs.Laws.{fine-first, fine-next, unless-fine}
 use Rattle.checks.proofs.CheckLaws.{count-fine}
 
@@ -107,6 +107,10 @@ sided-small n row right e =
 pub number-spelled : (m : ℕ) → numberCheck m ≡ Finding.Fine → m < 10 ^ digitsMax
 unfolding numberCheck
 number-spelled m e = let h = leb-true m numberMax (unless-fine _ _ e) in omega arith
+
+pub visit-spelled : (m : ℕ) → visitCheck m ≡ Finding.Fine → m < 10 ^ digitsMax
+unfolding visitCheck
+visit-spelled m e = let h = leb-true m visitMax (unless-fine _ _ e) in omega arith
 
 pub steps-spelled : (m : ℕ) → stepsCheck m ≡ Finding.Fine → m < 10 ^ digitsMax
 unfolding stepsCheck

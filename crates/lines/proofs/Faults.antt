@@ -5,14 +5,14 @@ use mathlib.Core.Path.{_≡_}
 use mathlib.Core.Bool.{Bool, true, false, not}
 use mathlib.Core.List.{List}
 use lib.IntN.{ℤ}
-use Rattle.sizes.specs.Sizes.{nMax, numberMax, stepsMax}
+use Rattle.sizes.specs.Sizes.{nMax, numberMax, visitMax, stepsMax}
 use Rattle.faults.specs.Words.{faultNumber}
 use Rattle.faults.specs.Checks.{badUnless, firstOf}
 use Rattle.faults.specs.declared.Fault.{Fault}
 use Rattle.faults.specs.declared.Finding.{Finding}
 use Rattle.text.specs.Keys.{bodyOf, sameBytes}
 use Rattle.text.specs.Lists.{placesMax}
-use Rattle.text.specs.Words.{jobKey, nKey, pinKey, loKey, hiKey, invKey, stepsKey, rowKey}
+use Rattle.text.specs.Words.{jobKey, visitKey, nKey, pinKey, loKey, hiKey, invKey, stepsKey, rowKey}
 use Rattle.term_text.specs.Terms.{oneDigit, readEquation}
 use Rattle.checks.specs.Checks.{unknownsCheck, lowCheck, highCheck, inverseCheck, equationCheck, rowCheck, sidedCheck}
 use Rattle.checks.specs.CheckResult.{countCheck, countedCheck}
@@ -22,7 +22,8 @@ use Rattle.reading.specs.Got.{Got, Blamed}
 use Rattle.reading.proofs.Blamed.{blamed-got, blamed-fault, blamed-either, blamed-unless, blamed-after, blamed-passing}
 use Rattle.reading.proofs.Blamed.{count-blamed, list-blamed, row-blamed}
 use Rattle.lines.specs.Found.{found}
-use Rattle.lines.specs.Lines.{numberOf, stepsOf, digitIs, unknownsOf, kindOf, verdictOf, lowOf, anyLowOf, highOf}
+use Rattle.lines.specs.Lines.{numberOf, visitOf, stepsOf, digitIs, unknownsOf, kindOf, verdictOf}
+use Rattle.lines.specs.Lines.{lowOf, anyLowOf, highOf}
 use Rattle.lines.specs.Lines.{writtenPin, pinOf, inverseOf, rowOf, sidedOf, termsBy, equationOf, wordOr}
 use Rattle.lines.specs.Texts.{kindText, verdictText}
 
@@ -82,6 +83,10 @@ module _ (l : List ℕ) where
   pub number-of-line : Blamed OfLine (numberOf l)
   unfolding numberOf
   number-of-line = count-blamed Fault.Spelling spelling jobKey l Fault.Beyond beyond numberMax
+
+  pub visit-of-line : Blamed OfLine (visitOf l)
+  unfolding visitOf
+  visit-of-line = count-blamed Fault.Spelling spelling visitKey l Fault.Beyond beyond visitMax
 
   pub steps-of-line : Blamed OfLine (stepsOf l)
   unfolding stepsOf

@@ -5,20 +5,21 @@ use mathlib.Core.Path.{_≡_, refl, ap}
 use mathlib.Core.List.{List}
 use lib.Dec.{leb}
 use borrow.Author.Tests.{le-leb}
-use Rattle.sizes.specs.Sizes.{numberMax, stepsMax}
+use Rattle.sizes.specs.Sizes.{numberMax, visitMax, stepsMax}
 use Rattle.faults.specs.declared.Fault.{Fault}
 use Rattle.faults.specs.declared.Finding.{Finding}
 use Rattle.faults.specs.Checks.{badUnless}
 use Rattle.faults.proofs.Laws.{fine-unless}
-use Rattle.text.specs.Words.{jobKey, stepsKey}
+use Rattle.text.specs.Words.{jobKey, visitKey, stepsKey}
 use Rattle.checks.specs.Checks.{numberCheck, stepsCheck}
+use Rattle.checks.specs.CheckResult.{visitCheck}
 use Rattle.jobs.specs.declared.Kind.{Kind}
 use Rattle.reading.specs.Got.{Got, Told}
 use Rattle.reading.specs.NumberLines.{countLine}
 use Rattle.reading.proofs.Told.{told-map}
 use Rattle.reading.proofs.NumberLines.{count-told}
 use Rattle.lines.specs.Found.{found}
-use Rattle.lines.specs.Lines.{numberOf, stepsOf, kindOf}
+use Rattle.lines.specs.Lines.{numberOf, visitOf, stepsOf, kindOf}
 use Rattle.lines.specs.Texts.{countText, kindText}
 use Rattle.lines.proofs.Words.{kind-told}
 
@@ -41,6 +42,10 @@ limit-told f key most l =
 pub number-told : (l : List ℕ) → Told (LineWas (countText jobKey) numberCheck (λ m. m) l) (numberOf l)
 unfolding numberOf numberCheck
 number-told = limit-told Fault.Beyond jobKey numberMax
+
+pub visit-told : (l : List ℕ) → Told (LineWas (countText visitKey) visitCheck (λ m. m) l) (visitOf l)
+unfolding visitOf visitCheck
+visit-told = limit-told Fault.Beyond visitKey visitMax
 
 pub steps-told : (l : List ℕ) → Told (LineWas (countText stepsKey) stepsCheck (λ m. m) l) (stepsOf l)
 unfolding stepsOf stepsCheck

@@ -7,12 +7,13 @@ use mathlib.Core.Bool.{cond, not, _&&_}
 use lib.ListN.{getD}
 use lib.Dec.{eqb}
 use lib.IntN.{ℤ, pos}
-use Rattle.sizes.specs.Sizes.{nMax, numberMax, stepsMax}
+use Rattle.sizes.specs.Sizes.{nMax, numberMax, visitMax, stepsMax}
 use Rattle.faults.specs.declared.Fault.{Fault}
 use Rattle.faults.specs.declared.Finding.{Finding}
 use Rattle.faults.specs.Checks.{badUnless}
 use Rattle.digits.specs.Bytes.{digit0}
-use Rattle.text.specs.Words.{jobKey, kindKey, nKey, pinKey, loKey, hiKey, invKey, stepsKey, rowKey, verdictKey}
+use Rattle.text.specs.Words.{jobKey, kindKey, nKey, pinKey, loKey, hiKey, invKey, stepsKey, rowKey}
+use Rattle.text.specs.Words.{visitKey, verdictKey}
 use Rattle.text.specs.Keys.{sameBytes, bodyOf}
 use Rattle.text.specs.Lists.{placesMax}
 use Rattle.jobs.specs.declared.Kind.{Kind}
@@ -39,6 +40,10 @@ misspelled = Got.fault Fault.Spelling
 -- job=: "a number beyond its size above (a negative job number too)" 4
 unfoldable pub numberOf : List ℕ → Got Fault ℕ
 numberOf l = countLine Fault.Spelling Fault.Beyond jobKey numberMax l
+
+-- visit=: document 02, P12, "at most 999,999,999, else 4"
+unfoldable pub visitOf : List ℕ → Got Fault ℕ
+visitOf l = countLine Fault.Spelling Fault.Beyond visitKey visitMax l
 
 -- steps=: "steps not 0 to 1,000" 8
 unfoldable pub stepsOf : List ℕ → Got Fault ℕ

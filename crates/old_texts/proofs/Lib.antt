@@ -1,4 +1,5 @@
 pub mod Lines
 pub mod Jobs
 pub mod Results
+pub mod Unvisited
 pub mod RequestP10

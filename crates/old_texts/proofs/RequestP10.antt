@@ -73,7 +73,7 @@ pub new-job : (t : List ℕ) → readJob t .status ≡ Status.Done → 4 < readJ
 new-job = jobs.right-new
 
 pub new-result : (t : List ℕ) → readResult t .status ≡ Status.Done → 4 < readResult t .result .n
-    → oldReadResult t ≡ resultRefused (Status.Refused Fault.Unknowns 4)
+    → oldReadResult t ≡ resultRefused (Status.Refused Fault.Unknowns 5)
 new-result = results.right-new
 
 -- "and never a wrong job.": of every text it says the same, or 3 on that line, or 1;
@@ -85,7 +85,7 @@ never-wrong-job = jobs.same-or
 
 pub never-wrong-result : (t : List ℕ)
     → (oldReadResult t ≡ readResult t)
-    ⊎ ((oldReadResult t ≡ resultRefused (Status.Refused Fault.Unknowns 4))
+    ⊎ ((oldReadResult t ≡ resultRefused (Status.Refused Fault.Unknowns 5))
     ⊎ (oldReadResult t ≡ resultRefused (Status.Refused Fault.LongText 0)))
 never-wrong-result = results.same-or
 

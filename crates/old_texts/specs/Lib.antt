@@ -1,1 +1,2 @@
 pub mod Old
+pub mod Unvisited

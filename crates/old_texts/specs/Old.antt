@@ -1,5 +1,6 @@
 -- What the program of before request P10 says of a text: the same lines, with document 01's own limits of n and of
--- bytes. What all other lines say, their numbers and their faults are those of `jobForm` and `resultForm`.
+-- bytes. What all other lines say, their numbers and their faults are those of `jobForm` and `resultForm`, also where a
+-- later request has changed them: P10 speaks of the two limits alone.
 use Prim.Native.Nat.{ℕ}
 use mathlib.Core.List.{List}
 use lib.Dec.{leb}
@@ -81,6 +82,7 @@ oldLowOf l = passing (listLine Fault.Spelling loKey nMax l) (λ x. found (oldCou
 
 unfoldable pub oldResultSays : ResultLine → Result → List ℕ → Got Fault (Next ResultLine Result)
 oldResultSays ResultLine.Number v l = resultSays ResultLine.Number v l
+oldResultSays ResultLine.Visit v l = resultSays ResultLine.Visit v l
 oldResultSays ResultLine.Verdict v l = resultSays ResultLine.Verdict v l
 oldResultSays ResultLine.Steps v l = resultSays ResultLine.Steps v l
 oldResultSays ResultLine.Lo v l = after (oldLowOf l) (λ x. leaves ResultLine.Hi (withLow v x))

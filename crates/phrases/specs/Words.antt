@@ -6,7 +6,8 @@ use lib.Dec.{eqb}
 use lib.IntN.{ℤ, pos}
 use Rattle.digits.specs.Show.{showMagnitude, showNumber}
 use Rattle.sizes.specs.Sizes.{numberMax}
-use Rattle.text.specs.Words.{jobKey, kindKey, nKey, pinKey, loKey, hiKey, invKey, stepsKey, eqKey, rowKey, verdictKey}
+use Rattle.text.specs.Words.{jobKey, kindKey, nKey, pinKey, loKey, hiKey, invKey, stepsKey, eqKey, rowKey}
+use Rattle.text.specs.Words.{visitKey, verdictKey}
 use Rattle.term_checks.specs.Ranges.{isWithin}
 use Rattle.slips.specs.declared.Key.{Key}
 use Rattle.slips.specs.declared.Form.{Form}
@@ -36,6 +37,7 @@ keyWords Key.Inv = invKey
 keyWords Key.Steps = stepsKey
 keyWords Key.Eq = eqKey
 keyWords Key.Row = rowKey
+keyWords Key.Visit = visitKey
 keyWords Key.Verdict = verdictKey
 
 -- words, a count, words
@@ -73,6 +75,7 @@ formWords (Form.Sided m) = counted (ascii "row= and ") m (ascii " numbers joined
 formWords (Form.Terms n) =
     counted (ascii "eq= and terms coefficient:exponents joined by commas, exponent digits a term: ") n []
 formWords Form.Steps = ascii "steps= and a number"
+formWords Form.Visit = ascii "visit= and the visit's number"
 formWords Form.Verdict = ascii "verdict=none, verdict=unique, verdict=stalled or verdict=spent"
 formWords Form.Low = ascii "lo= and numbers joined by commas"
 formWords Form.Nothing = ascii "nothing after the last line"

@@ -89,6 +89,7 @@ pub fn put_key(out: &mut [u8], at: usize, key: Key) -> usize
         Key::Steps => put_bytes(out, at, b"steps="),
         Key::Eq => put_bytes(out, at, b"eq="),
         Key::Row => put_bytes(out, at, b"row="),
+        Key::Visit => put_bytes(out, at, b"visit="),
         Key::Verdict => put_bytes(out, at, b"verdict="),
     }
 }
@@ -175,6 +176,7 @@ fn put_form(out: &mut [u8], at: usize, form: Form) -> usize
         Form::Sided(m) => put_sided(out, at, m),
         Form::Terms(n) => put_terms_form(out, at, n),
         Form::Steps => put_bytes(out, at, b"steps= and a number"),
+        Form::Visit => put_bytes(out, at, b"visit= and the visit's number"),
         Form::Verdict => put_bytes(
             out,
             at,

@@ -17,3 +17,5 @@ pub mod RequestP7
 pub mod RequestP2
 pub mod Halved
 pub mod RequestP8
+pub mod Visits
+pub mod RequestP12

@@ -50,6 +50,7 @@ module _ (j : Job) (checked : checkJob j ≡ Status.Done) where
       unfolding resultOf
       from-sound = record {
         number = accepted .number;
+        visit = omega arith;
         steps = omega (arith, run-count (j .head .n) (equationOf j) (inverseOf j) a 0 x, few);
         some = accepted .some;
         few = accepted .few;

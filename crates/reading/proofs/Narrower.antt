@@ -18,7 +18,7 @@ use Rattle.reading.specs.Narrower.{NarrowLine, limited, Narrower, Narrow
 use Rattle.reading.proofs.Decided.{stays-bad}
 
 -- a text is read by its lines, and the bytes after the last of them
-read-lines : {F L X : Type 0} (g : Form F L X) (t : List ℕ) → length t ≤ g .most
+pub read-lines : {F L X : Type 0} (g : Form F L X) (t : List ℕ) → length t ≤ g .most
     → read g t ≡ ended g (foldl (step g) (begin g) (pieces lineFeed t)) (length (rest lineFeed t))
 unfolding read closed more opened
 read-lines g t h =

@@ -15,21 +15,22 @@ use Rattle.reading.specs.NumberLines.{placed}
 use Rattle.reading.proofs.Told.{after-after}
 use Rattle.reading.proofs.NumberLines.{count-plain, list-plain}
 use Rattle.reading.proofs.Walk.{Law}
-use Rattle.text.specs.Words.{jobKey, stepsKey, loKey, hiKey}
+use Rattle.text.specs.Words.{jobKey, visitKey, stepsKey, loKey, hiKey}
 use Rattle.jobs.specs.declared.ResultLine.{ResultLine}
 use Rattle.checks.specs.Checks.{numberCheck, stepsCheck, highCheck}
-use Rattle.checks.specs.CheckResult.{countedCheck, resultCheck}
+use Rattle.checks.specs.CheckResult.{visitCheck, countedCheck, resultCheck}
 use Rattle.lines.specs.Found.{found}
 use Rattle.lines.proofs.Found.{found-fine}
 use Rattle.lines.proofs.Words.{verdict-above, verdict-back}
-use Rattle.lines.proofs.Checks.{counted-fine, low-small, high-small, number-spelled, steps-spelled}
-use Rattle.lines.proofs.Back.{number-back, steps-back, any-low-back, high-back}
+use Rattle.lines.proofs.Checks.{counted-fine, low-small, high-small, number-spelled, visit-spelled, steps-spelled}
+use Rattle.lines.proofs.Back.{number-back, visit-back, steps-back, any-low-back, high-back}
 use Rattle.result_form.specs.ResultForm.{resultSays, resultEnd, resultForm}
 use Rattle.result_form.specs.ResultShows.{line, resultShows}
 
 -- what is reached where no check before finds a fault
 abbrev pub Has : Result → ResultLine → Type 0
 Has r ResultLine.Number = Unit {0}
+Has r ResultLine.Visit = Unit {0}
 Has r ResultLine.Verdict = Unit {0}
 Has r ResultLine.Steps = Unit {0}
 Has r ResultLine.Lo = Unit {0}
@@ -38,6 +39,7 @@ Has r ResultLine.End = Unit {0}
 
 abbrev pub Spelt : Result → ResultLine → Type 0
 Spelt r ResultLine.Number = r .number < 10 ^ digitsMax
+Spelt r ResultLine.Visit = r .visit < 10 ^ digitsMax
 Spelt r ResultLine.Verdict = Unit {0}
 Spelt r ResultLine.Steps = r .steps < 10 ^ digitsMax
 Spelt r ResultLine.Lo = Small (placed (r .n) (r .n) (r .lo))
@@ -50,6 +52,11 @@ unfolding resultSays resultCheck after
 law r ResultLine.Number h o = record {
   says = λ s. rw (number-back (r .number) s) (after-after (found (numberCheck (r .number))) _ _);
   spelt = λ e. number-spelled (r .number) (found-fine _ e);
+  has = λ e. tt;
+}
+law r ResultLine.Visit h o = record {
+  says = λ s. rw (visit-back (r .visit) s) (after-after (found (visitCheck (r .visit))) _ _);
+  spelt = λ e. visit-spelled (r .visit) (found-fine _ e);
   has = λ e. tt;
 }
 law r ResultLine.Verdict h o = record {
@@ -79,6 +86,7 @@ law r ResultLine.End h o = absurd (true≢false o)
 pub plain : (r : Result) (k : ResultLine) → Above lineFeed (line k r)
 unfolding Above
 plain r ResultLine.Number = count-plain jobKey (omega arith) (r .number)
+plain r ResultLine.Visit = count-plain visitKey (omega arith) (r .visit)
 plain r ResultLine.Verdict = verdict-above (r .verdict)
 plain r ResultLine.Steps = count-plain stepsKey (omega arith) (r .steps)
 plain r ResultLine.Lo = list-plain loKey (omega arith) digitsMax (placed (r .n) (r .n) (r .lo))

@@ -19,12 +19,12 @@ use Rattle.jobs.specs.declared.ResultLine.{ResultLine}
 use Rattle.checks.specs.CheckResult.{resultCheck}
 use Rattle.text.specs.Words.{loKey}
 use Rattle.lines.specs.Lines.{anyLowOf}
-use Rattle.result_form.specs.ResultForm.{withNumber, withVerdict, withSteps}
+use Rattle.result_form.specs.ResultForm.{withNumber, withVisit, withVerdict, withSteps}
 use Rattle.result_form.specs.ResultForm.{withLow, withHigh, resultSays, resultEnd}
 use Rattle.result_form.specs.ResultShows.{resultShows}
 use Rattle.result_form.proofs.Back.{Has}
 use Rattle.lines.proofs.Found.{found-fine}
-use Rattle.lines.proofs.Was.{number-told, steps-told}
+use Rattle.lines.proofs.Was.{number-told, visit-told, steps-told}
 use Rattle.lines.proofs.Told.{high-told}
 use Rattle.lines.proofs.Words.{verdict-told}
 use Rattle.lines.proofs.Checks.{counted-fine}
@@ -38,6 +38,15 @@ grows ResultLine.Number v l o p h =
       kept = record {
         passed = (e .fine, tt);
         only = ap (λ (u : Result). withNumber u m) (p .only);
+      };
+      has = tt;
+    })
+grows ResultLine.Visit v l o p h =
+    told-after _ _ (visit-told l) (λ m e. record {
+      lines = line-same resultShows ResultLine.Visit v (e .shown);
+      kept = record {
+        passed = passed-next resultShows (withVisit v m) ResultLine.Visit (p .passed) (e .fine);
+        only = ap (λ (u : Result). withVisit u m) (p .only);
       };
       has = tt;
     })

@@ -25,7 +25,7 @@ use Rattle.faults.specs.declared.Status.{Status}
 use Rattle.jobs.specs.declared.ResultLine.{ResultLine}
 use Rattle.jobs.specs.Lines.{resultNumber}
 use Rattle.checks.specs.CheckResult.{resultCheck, resultLineStatus, checkResult}
-use Rattle.text.specs.Words.{jobKey, stepsKey, loKey, hiKey}
+use Rattle.text.specs.Words.{jobKey, visitKey, stepsKey, loKey, hiKey}
 use Rattle.lines.specs.Found.{statusOf}
 use Rattle.lines.specs.Texts.{verdictText}
 use Rattle.lines.proofs.Found.{found-fine, status-then, status-last}
@@ -47,14 +47,16 @@ word-short Verdict.Spent = omega arith
 
 -- what the lines of n unknowns take
 abbrev pub resultWidth : ℕ → ℕ
-resultWidth n = 60 + (digitsMax + 2) * (2 + 2 * n)
+resultWidth n = 76 + (digitsMax + 2) * (2 + 2 * n)
 
 pub result-width : (r : Result) → length (showResult r) ≤ resultWidth (r .n)
 result-width r =
-    rw (end-length _ _, end-length _ _, end-length _ _, end-length _ _, end-length _ _, end-none)
+    rw
+    (end-length _ _, end-length _ _, end-length _ _, end-length _ _, end-length _ _, end-length _ _, end-none)
     (omega (
       arith,
       count-line-short jobKey (r .number),
+      count-line-short visitKey (r .visit),
       word-short (r .verdict),
       count-line-short stepsKey (r .steps),
       list-line-short digitsMax loKey (placed (r .n) (r .n) (r .lo)),
@@ -71,6 +73,7 @@ result-short r few = omega (arith, result-width r)
 
 ends : (k : ResultLine) → resultEnd k ≡ true → k ≡ ResultLine.End
 ends ResultLine.Number e = cc
+ends ResultLine.Visit e = cc
 ends ResultLine.Verdict e = cc
 ends ResultLine.Steps e = cc
 ends ResultLine.Lo e = cc
@@ -79,6 +82,7 @@ ends ResultLine.End e = refl
 
 counted : (k : ResultLine) (v : Result) → Kept resultShows k v → resultNumber k ≡ length (before resultShows k v) + 1
 counted ResultLine.Number v p = refl
+counted ResultLine.Visit v p = refl
 counted ResultLine.Verdict v p = refl
 counted ResultLine.Steps v p = refl
 counted ResultLine.Lo v p = refl
@@ -95,10 +99,11 @@ laws = record {
   last = refl;
   nothing = λ r. refl;
   has = λ r. tt;
-  tied = λ r. Tied.one refl (Tied.one refl (Tied.one refl (Tied.one refl (Tied.one refl Tied.none))));
+  tied = λ r.
+      Tied.one refl (Tied.one refl (Tied.one refl (Tied.one refl (Tied.one refl (Tied.one refl Tied.none)))));
   law = law;
   plain = plain;
-  short = λ r p. result-short r (counted-fine (r .n) (r .lo) (found-fine _ (p .1 .1 .1 .0)) .0 .1);
+  short = λ r p. result-short r (counted-fine (r .n) (r .lo) (found-fine _ (p .1 .1 .1 .1 .0)) .0 .1);
 }
 
 -- "Values handed over without text get the same checks in the same line order"
@@ -106,10 +111,11 @@ judged-status : (r : Result) → statusOf (judged resultForm resultShows r) ≡ 
 unfolding checkResult resultLineStatus findings
 judged-status r =
     status-then (resultCheck ResultLine.Number r) _ _ _
+    (status-then (resultCheck ResultLine.Visit r) _ _ _
     (status-then (resultCheck ResultLine.Verdict r) _ _ _
     (status-then (resultCheck ResultLine.Steps r) _ _ _
     (status-then (resultCheck ResultLine.Lo r) _ _ _
-    (status-last (resultCheck ResultLine.Hi r) _ (live resultShows r)))))
+    (status-last (resultCheck ResultLine.Hi r) _ (live resultShows r))))))
 
 pub same-order : (r : Result) → Spelled r → length (showResult r) ≤ textMax
     → statusOf (read resultForm (showResult r)) ≡ checkResult r
@@ -117,6 +123,7 @@ same-order r s h = trips.same-order resultForm resultShows Has Spelt laws checkR
   where
     spelt : (k : ResultLine) → Has r k → Spelt r k
     spelt ResultLine.Number p = s .number
+    spelt ResultLine.Visit p = s .visit
     spelt ResultLine.Verdict p = tt
     spelt ResultLine.Steps p = s .steps
     spelt ResultLine.Lo p = s .low

@@ -15,32 +15,83 @@ use Rattle.jobs.specs.declared.Verdict.{Verdict}
 use Rattle.reading.specs.Got.{Got, after}
 use Rattle.reading.specs.Lines.{Next, Form, Answer, read}
 use Rattle.reading.specs.NumberLines.{Listed}
-use Rattle.lines.specs.Lines.{numberOf, verdictOf, stepsOf, anyLowOf, highOf, misspelled}
+use Rattle.lines.specs.Lines.{numberOf, visitOf, verdictOf, stepsOf, anyLowOf, highOf, misspelled}
 use Rattle.result_form.specs.declared.ResultRead.{ResultRead}
 
 -- ---- the lines in their order, and what each leaves
 
 abbrev pub withNumber : Result → ℕ → Result
-withNumber r m = record { number = m; verdict = r .verdict; steps = r .steps; n = r .n; lo = r .lo; hi = r .hi }
+withNumber r m = record {
+  number = m;
+  visit = r .visit;
+  verdict = r .verdict;
+  steps = r .steps;
+  n = r .n;
+  lo = r .lo;
+  hi = r .hi;
+}
+
+abbrev pub withVisit : Result → ℕ → Result
+withVisit r m = record {
+  number = r .number;
+  visit = m;
+  verdict = r .verdict;
+  steps = r .steps;
+  n = r .n;
+  lo = r .lo;
+  hi = r .hi;
+}
 
 abbrev pub withVerdict : Result → Verdict → Result
-withVerdict r v = record { number = r .number; verdict = v; steps = r .steps; n = r .n; lo = r .lo; hi = r .hi }
+withVerdict r v = record {
+  number = r .number;
+  visit = r .visit;
+  verdict = v;
+  steps = r .steps;
+  n = r .n;
+  lo = r .lo;
+  hi = r .hi;
+}
 
 abbrev pub withSteps : Result → ℕ → Result
-withSteps r m = record { number = r .number; verdict = r .verdict; steps = m; n = r .n; lo = r .lo; hi = r .hi }
+withSteps r m = record {
+  number = r .number;
+  visit = r .visit;
+  verdict = r .verdict;
+  steps = m;
+  n = r .n;
+  lo = r .lo;
+  hi = r .hi;
+}
 
 abbrev pub withLow : Result → Listed → Result
-withLow r x =
-    record { number = r .number; verdict = r .verdict; steps = r .steps; n = x .count; lo = x .row; hi = r .hi }
+withLow r x = record {
+  number = r .number;
+  visit = r .visit;
+  verdict = r .verdict;
+  steps = r .steps;
+  n = x .count;
+  lo = x .row;
+  hi = r .hi;
+}
 
 abbrev pub withHigh : Result → List ℤ → Result
-withHigh r xs = record { number = r .number; verdict = r .verdict; steps = r .steps; n = r .n; lo = r .lo; hi = xs }
+withHigh r xs = record {
+  number = r .number;
+  visit = r .visit;
+  verdict = r .verdict;
+  steps = r .steps;
+  n = r .n;
+  lo = r .lo;
+  hi = xs;
+}
 
 abbrev pub leaves : ResultLine → Result → Next ResultLine Result
 leaves k r = record { kind = k; value = r }
 
 unfoldable pub resultSays : ResultLine → Result → List ℕ → Got Fault (Next ResultLine Result)
-resultSays ResultLine.Number v l = after (numberOf l) (λ m. leaves ResultLine.Verdict (withNumber v m))
+resultSays ResultLine.Number v l = after (numberOf l) (λ m. leaves ResultLine.Visit (withNumber v m))
+resultSays ResultLine.Visit v l = after (visitOf l) (λ m. leaves ResultLine.Verdict (withVisit v m))
 resultSays ResultLine.Verdict v l = after (verdictOf l) (λ w. leaves ResultLine.Steps (withVerdict v w))
 resultSays ResultLine.Steps v l = after (stepsOf l) (λ m. leaves ResultLine.Lo (withSteps v m))
 resultSays ResultLine.Lo v l = after (anyLowOf l) (λ x. leaves ResultLine.Hi (withLow v x))
@@ -49,6 +100,7 @@ resultSays ResultLine.End v l = misspelled
 
 abbrev pub resultEnd : ResultLine → Bool
 resultEnd ResultLine.Number = false
+resultEnd ResultLine.Visit = false
 resultEnd ResultLine.Verdict = false
 resultEnd ResultLine.Steps = false
 resultEnd ResultLine.Lo = false

@@ -14,13 +14,14 @@ use Rattle.reading.specs.Shows.{Shows, shown}
 use Rattle.jobs.specs.declared.ResultLine.{ResultLine}
 use Rattle.jobs.specs.Lines.{resultNumber}
 use Rattle.checks.specs.CheckResult.{resultCheck}
-use Rattle.text.specs.Words.{jobKey, stepsKey, loKey, hiKey}
+use Rattle.text.specs.Words.{jobKey, visitKey, stepsKey, loKey, hiKey}
 use Rattle.lines.specs.Texts.{countText, verdictText, rowText}
 use Rattle.lines.specs.Found.{found}
-use Rattle.result_form.specs.ResultForm.{withNumber, withVerdict, withSteps, withLow, withHigh}
+use Rattle.result_form.specs.ResultForm.{withNumber, withVisit, withVerdict, withSteps, withLow, withHigh}
 
 abbrev pub line : ResultLine → Result → List ℕ
 line ResultLine.Number r = countText jobKey (r .number)
+line ResultLine.Visit r = countText visitKey (r .visit)
 line ResultLine.Verdict r = verdictText (r .verdict)
 line ResultLine.Steps r = countText stepsKey (r .steps)
 line ResultLine.Lo r = rowText loKey (r .n) (r .lo)
@@ -28,7 +29,8 @@ line ResultLine.Hi r = rowText hiKey (r .n) (r .hi)
 line ResultLine.End r = []
 
 abbrev pub next : ResultLine → ResultLine
-next ResultLine.Number = ResultLine.Verdict
+next ResultLine.Number = ResultLine.Visit
+next ResultLine.Visit = ResultLine.Verdict
 next ResultLine.Verdict = ResultLine.Steps
 next ResultLine.Steps = ResultLine.Lo
 next ResultLine.Lo = ResultLine.Hi
@@ -36,12 +38,16 @@ next ResultLine.Hi = ResultLine.End
 next ResultLine.End = ResultLine.End
 
 abbrev pub kinds : List ResultLine
-kinds = ResultLine.Number ∷ ResultLine.Verdict ∷ ResultLine.Steps ∷ ResultLine.Lo ∷ ResultLine.Hi ∷ []
+kinds =
+    ResultLine.Number ∷ ResultLine.Visit ∷ ResultLine.Verdict ∷ ResultLine.Steps ∷ ResultLine.Lo ∷ ResultLine.Hi ∷ []
 
 -- ---- what is read of a result: "places past n play no part; a reader and every result leave them zero"
 
+abbrev pub uptoVisit : Result → Result
+uptoVisit r = withNumber noResult (r .number)
+
 abbrev pub uptoVerdict : Result → Result
-uptoVerdict r = withNumber noResult (r .number)
+uptoVerdict r = withVisit (uptoVisit r) (r .visit)
 
 abbrev pub uptoSteps : Result → Result
 uptoSteps r = withVerdict (uptoVerdict r) (r .verdict)
@@ -54,6 +60,7 @@ uptoHigh r = withLow (uptoLow r) (record { count = r .n; row = placed nMax (r .n
 
 abbrev pub upto : ResultLine → Result → Result
 upto ResultLine.Number r = noResult
+upto ResultLine.Visit r = uptoVisit r
 upto ResultLine.Verdict r = uptoVerdict r
 upto ResultLine.Steps r = uptoSteps r
 upto ResultLine.Lo r = uptoLow r
@@ -80,6 +87,7 @@ showResult r = bytes (shown resultShows r)
 -- each number has at most nine digits, so that it can be spelled
 pub record Spelled (r : Result) : Type 0 where
   pub number : r .number < 10 ^ digitsMax
+  pub visit : r .visit < 10 ^ digitsMax
   pub steps : r .steps < 10 ^ digitsMax
   pub low : Small (placed (r .n) (r .n) (r .lo))
   pub high : Small (placed (r .n) (r .n) (r .hi))

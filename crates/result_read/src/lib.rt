@@ -6,7 +6,7 @@ ghost use Rattle.jobs.specs.Zero.{noResult};
 ghost use Rattle.jobs.specs.declared.ResultLine.{ResultLine};
 ghost use Rattle.line_read.specs.States.{Leads};
 ghost use Rattle.result_form.specs.ResultForm.{resultForm, readResult};
-ghost use Rattle.result_read.specs.Parts.{toldOf, BoxFrom, refusedWith};
+ghost use Rattle.result_read.specs.Parts.{namesOf, ToldFrom, BoxFrom, refusedWith};
 use faults::Fault;
 use faults::Status;
 use faults::is_bad;
@@ -18,6 +18,7 @@ use jobs::lines::result_line_number;
 use jobs::zero::no_result;
 use line_read::counts::number_line;
 use line_read::counts::steps_line;
+use line_read::counts::visit_line;
 use line_read::words::verdict_line;
 use list_read::numbers::any_low_line;
 use list_read::numbers::high_line;
@@ -26,9 +27,15 @@ use sizes::N;
 use sizes::TEXT;
 
 // What some lines say, and where the next line begins. Beside a fault the rest is any.
-struct ToldAt {
+struct NamesAt {
     status: Status,
     number: u64,
+    visit: u64,
+    next: usize,
+}
+
+struct ToldAt {
+    status: Status,
     verdict: Verdict,
     steps: u64,
     next: usize,
@@ -42,30 +49,55 @@ struct BoxAt {
     next: usize,
 }
 
+fn no_names(status: Status) -> NamesAt
+    ensures { λ r. ⌜ (r .status ≡ status) × (r .next ≡ 0) ⌝ }
+{
+    NamesAt {
+        status,
+        number: 0,
+        visit: 0,
+        next: 0,
+    }
+}
+
+// "job", and `visit=` "as second line"
+fn names_at(text: &[u8]) -> NamesAt
+    ensures { λ r. ⌜ Leads resultForm (now (text .entry)) 0 ResultLine.Number noResult (r .status) ResultLine.Verdict
+        (namesOf r) (r .next) ⌝ }
+{
+    let n = number_line(text, 0);
+    let found = n.found;
+    let numbered = on_line(found, result_line_number(ResultLine::Number));
+    if is_bad(numbered) {
+        return no_names(numbered);
+    }
+    let v = visit_line(text, n.next);
+    let found = v.found;
+    NamesAt {
+        status: on_line(found, result_line_number(ResultLine::Visit)),
+        number: n.count,
+        visit: v.count,
+        next: v.next,
+    }
+}
+
 fn no_told(status: Status) -> ToldAt
     ensures { λ r. ⌜ (r .status ≡ status) × (r .next ≡ 0) ⌝ }
 {
     ToldAt {
         status,
-        number: 0,
         verdict: Verdict::None,
         steps: 0,
         next: 0,
     }
 }
 
-// "job, verdict, steps"
-fn told_at(text: &[u8]) -> ToldAt
-    ensures { λ r. ⌜ Leads resultForm (now (text .entry)) 0 ResultLine.Number noResult (r .status) ResultLine.Lo
-        (toldOf r) (r .next) ⌝ }
+// "verdict, steps"
+fn told_at(text: &[u8], from: usize) -> ToldAt
+    requires { ⌜ from ≤ length (now text) ⌝ }
+    ensures { λ r. ⌜ ToldFrom (now (text .entry)) from r ⌝ }
 {
-    let n = number_line(text, 0);
-    let found = n.found;
-    let numbered = on_line(found, result_line_number(ResultLine::Number));
-    if is_bad(numbered) {
-        return no_told(numbered);
-    }
-    let v = verdict_line(text, n.next);
+    let v = verdict_line(text, from);
     let found = v.found;
     let judged = on_line(found, result_line_number(ResultLine::Verdict));
     if is_bad(judged) {
@@ -76,7 +108,6 @@ fn told_at(text: &[u8]) -> ToldAt
     let found = s.found;
     ToldAt {
         status: on_line(found, result_line_number(ResultLine::Steps)),
-        number: n.count,
         verdict,
         steps: s.count,
         next: s.next,
@@ -136,7 +167,12 @@ pub fn read_result(text: &[u8]) -> ResultRead
     if TEXT < text.len() {
         return refused(Status::Refused(Fault::LongText, 0));
     }
-    let t = told_at(text);
+    let n = names_at(text);
+    let named = n.status;
+    if is_bad(named) {
+        return refused(named);
+    }
+    let t = told_at(text, n.next);
     let told = t.status;
     if is_bad(told) {
         return refused(told);
@@ -155,7 +191,8 @@ pub fn read_result(text: &[u8]) -> ResultRead
     ResultRead {
         status: Status::Done,
         result: Result {
-            number: t.number,
+            number: n.number,
+            visit: n.visit,
             verdict,
             steps: t.steps,
             n: b.n,

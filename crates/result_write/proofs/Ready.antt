@@ -34,8 +34,10 @@ long k r = length (Wrote.line (line k r))
 -- all lines together are no longer than a text may be
 pub lines-short : (r : Result) → r .n ≤ nMax
     → long ResultLine.Number r
-    + (long ResultLine.Verdict r + (long ResultLine.Steps r + (long ResultLine.Lo r + (long ResultLine.Hi r + 0))))
+    + (long ResultLine.Visit r + (long ResultLine.Verdict r
+    + (long ResultLine.Steps r + (long ResultLine.Lo r + (long ResultLine.Hi r + 0)))))
     ≤ textMax
 lines-short r few =
-    rw (end-length _ _, end-length _ _, end-length _ _, end-length _ _, end-length _ _, end-none) at
+    rw
+    (end-length _ _, end-length _ _, end-length _ _, end-length _ _, end-length _ _, end-length _ _, end-none) at
     (result-short r few)

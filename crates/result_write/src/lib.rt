@@ -45,10 +45,11 @@ fn put_result(buf: &mut [u8], r: Result) -> usize
     let hi = r.hi;
     let v = r.verdict;
     let a = put_count_line(buf, 0, b"job=", r.number);
-    let b = put_verdict(buf, a, v);
-    let c = put_count_line(buf, b, b"steps=", r.steps);
-    let d = put_row_line(buf, c, b"lo=", lo, n, DIGITS);
-    put_row_line(buf, d, b"hi=", hi, n, DIGITS)
+    let b = put_count_line(buf, a, b"visit=", r.visit);
+    let c = put_verdict(buf, b, v);
+    let d = put_count_line(buf, c, b"steps=", r.steps);
+    let e = put_row_line(buf, d, b"lo=", lo, n, DIGITS);
+    put_row_line(buf, e, b"hi=", hi, n, DIGITS)
 }
 
 // The same writer on a buffer of one byte measures the text. It need not where the room is that of any text.

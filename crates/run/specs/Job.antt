@@ -21,10 +21,11 @@ runFrom j x allowance = runOf (j .head .n) (equationOf j) (inverseOf j) allowanc
 unfoldable pub outcomeOf : Job → Outcome
 outcomeOf j = runFrom j (startOf j) (j .steps)
 
--- "The answer is a box, a verdict and the number of steps done."
+-- "The answer is a box, a verdict and the number of steps done."; the visit is "0 for a job run alone"
 unfoldable pub resultOf : Job → Outcome → Result
 resultOf j o = record {
   number = j .head .number;
+  visit = 0;
   verdict = o .verdict;
   steps = o .steps;
   n = j .head .n;

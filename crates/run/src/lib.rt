@@ -125,6 +125,7 @@ pub fn result_of(j: Job, o: Outcome) -> Result
     let verdict = o.verdict;
     Result {
         number: j.head.number,
+        visit: 0,
         verdict: verdict,
         steps: o.steps,
         n: n,

@@ -73,6 +73,7 @@ misspelled-some s (Misspelling.Term k wrong) = wrong-some (s .n) k wrong (s .for
 far-some : (far : Far) → begun (farWords far) ≡ true
 unfolding farWords
 far-some (Far.Job v) = refl
+far-some (Far.Visit v) = refl
 far-some (Far.End k v) = refl
 far-some (Far.Entry k v) = refl
 far-some (Far.Coefficient k v) = refl

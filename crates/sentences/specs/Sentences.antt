@@ -3,7 +3,7 @@ use Prim.Native.Nat.{ℕ, _≤_}
 use mathlib.Core.Path.{_≡_}
 use mathlib.Core.List.{List, [], _++_}
 use lib.IntN.{ℤ}
-use Rattle.sizes.specs.Sizes.{nMax, termsMax, textMax, stepsMax, numberMax, endMax, entryMax, degreeMax}
+use Rattle.sizes.specs.Sizes.{nMax, termsMax, textMax, stepsMax, numberMax, visitMax, endMax, entryMax, degreeMax}
 use Rattle.faults.specs.declared.Finding.{Finding}
 use Rattle.writing.specs.Wrote.{Wrote}
 use Rattle.slips.specs.declared.Key.{Key}
@@ -110,11 +110,13 @@ rangeWords words m = words ++ counted (ascii " lie from -") m (ascii " to ") ++ 
 abbrev pub farNot : List ℕ → ℕ → ℤ → List ℕ → ℕ → List ℕ
 farNot field k v words m = counted field k (ascii " is ") ++ valueWords v ++ rangeWords words m
 
-abbrev pub jobFarWords : ℤ → List ℕ
-jobFarWords v = ascii "the job's number is " ++ valueWords v ++ counted (ascii ": it lies from 0 to ") numberMax []
+-- a count is v, and not from 0 to its limit
+abbrev pub countFarWords : List ℕ → ℤ → ℕ → List ℕ
+countFarWords words v most = words ++ valueWords v ++ counted (ascii ": it lies from 0 to ") most []
 
 unfoldable pub farWords : Far → List ℕ
-farWords (Far.Job v) = jobFarWords v
+farWords (Far.Job v) = countFarWords (ascii "the job's number is ") v numberMax
+farWords (Far.Visit v) = countFarWords (ascii "the visit's number is ") v visitMax
 farWords (Far.End k v) = farNot (ascii "number ") k v (ascii ": ends") endMax
 farWords (Far.Entry k v) = farNot (ascii "number ") k v (ascii ": entries") entryMax
 farWords (Far.Coefficient k v) = farNot (ascii "the coefficient of term ") k v (ascii ": coefficients") entryMax
@@ -160,9 +162,6 @@ termWords TermSlip.Unplaced = ascii "terms stand in strictly falling order of th
 abbrev pub unknownsWords : ℕ → List ℕ
 unknownsWords n = counted (ascii "there are 1 to ") nMax (ascii " unknowns, not ") ++ countWords n
 
-abbrev pub stepsWords : ℤ → List ℕ
-stepsWords v = ascii "steps is " ++ valueWords v ++ counted (ascii ": it lies from 0 to ") stepsMax []
-
 unfoldable pub pinSlipWords : PinSlip → List ℕ
 pinSlipWords PinSlip.Last = ascii ": the last coordinate is pinned without this line, leave the line out"
 pinSlipWords (PinSlip.Out most) = pinRangeWords most
@@ -179,7 +178,7 @@ slipWords (Slip.Beyond far) = farWords far
 slipWords (Slip.Crossed at) = crossedWords at
 slipWords (Slip.Terms slip) = termWords slip
 slipWords Slip.Short = ascii "the answer is longer than its buffer"
-slipWords (Slip.Steps v) = stepsWords v
+slipWords (Slip.Steps v) = countFarWords (ascii "steps is ") v stepsMax
 slipWords (Slip.Pin v slip) = pinnedWords v slip
 
 -- the sentence of a slip that is the fault which the reader found stands from the start of the buffer on, as far as

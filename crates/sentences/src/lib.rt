@@ -14,6 +14,7 @@ use slips::Slip;
 use spelled::put_misspelled;
 use text_slips::job_slip;
 use text_slips::result_slip;
+use values::put_count_far;
 use values::put_crossed;
 use values::put_far;
 use values::put_terms;
@@ -23,7 +24,7 @@ ghost use Rattle.result_form.specs.ResultForm.{readResult};
 ghost use Rattle.slips.specs.declared.Slip.{Slip};
 ghost use Rattle.slips.specs.Slips.{foundIn};
 ghost use Rattle.phrases.specs.Says.{Says, sentenceMax};
-ghost use Rattle.sentences.specs.Sentences.{unknownsWords, stepsWords, pinnedWords, slipWords, Explains};
+ghost use Rattle.sentences.specs.Sentences.{unknownsWords, pinnedWords, slipWords, Explains};
 
 // The longest sentence: a buffer of this size has room for any.
 pub const SENTENCE: usize = 256;
@@ -53,14 +54,6 @@ fn put_unknowns(out: &mut [u8], n: usize) -> usize
     put_count(out, a, n as u64)
 }
 
-fn put_steps(out: &mut [u8], v: i64) -> usize
-    ensures { λ r. ⌜ Says sentenceMax (now (out .entry)) (now (out .exit)) 0 r (stepsWords v) ⌝ }
-{
-    let a = put_bytes(out, 0, b"steps is ");
-    let b = put_value(out, a, v);
-    tell(out, b, b": it lies from 0 to ", STEPS, b"")
-}
-
 fn put_pinned(out: &mut [u8], v: i64, slip: PinSlip) -> usize
     ensures { λ r. ⌜ Says sentenceMax (now (out .entry)) (now (out .exit)) 0 r (pinnedWords v slip) ⌝ }
 {
@@ -88,7 +81,7 @@ fn put_slip(out: &mut [u8], slip: Slip) -> usize
         Slip::Crossed(at) => put_crossed(out, at),
         Slip::Terms(slip) => put_terms(out, slip),
         Slip::Short => put_short(out),
-        Slip::Steps(v) => put_steps(out, v),
+        Slip::Steps(v) => put_count_far(out, b"steps is ", v, STEPS),
         Slip::Pin(v, slip) => put_pinned(out, v, slip),
     }
 }

@@ -8,6 +8,7 @@ use sizes::END;
 use sizes::ENTRY;
 use sizes::NUMBER;
 use sizes::TERMS;
+use sizes::VISIT;
 use slips::Crossing;
 use slips::Far;
 use slips::TermSlip;
@@ -17,7 +18,7 @@ ghost use lib.ListN.{length};
 ghost use Rattle.slips.specs.declared.TermSlip.{TermSlip};
 ghost use Rattle.phrases.specs.Says.{Says, sentenceMax, wordsMost, rangeMost};
 ghost use Rattle.sentences.specs.Sentences.{rangeWords, farNot, farWords, crossingWords, crossedWords};
-ghost use Rattle.sentences.specs.Sentences.{jobFarWords, manyWords, degreeWords, sameWords};
+ghost use Rattle.sentences.specs.Sentences.{countFarWords, manyWords, degreeWords, sameWords};
 ghost use Rattle.sentences.specs.Sentences.{orderWords, termWords};
 
 // From -m to m.
@@ -40,19 +41,23 @@ fn put_far_not(out: &mut [u8], field: &[u8], k: usize, v: i64, words: &[u8], m: 
     put_range(out, b, words, m)
 }
 
-fn put_job_far(out: &mut [u8], v: i64) -> usize
-    ensures { λ r. ⌜ Says sentenceMax (now (out .entry)) (now (out .exit)) 0 r (jobFarWords v) ⌝ }
+// A count that is none from 0 to its limit.
+pub fn put_count_far(out: &mut [u8], words: &[u8], v: i64, most: u64) -> usize
+    requires { ⌜ length (now words) ≤ wordsMost ⌝ }
+    ensures { λ r. ⌜ Says sentenceMax (now (out .entry)) (now (out .exit)) 0 r
+        (countFarWords (now (words .entry)) v most) ⌝ }
 {
-    let a = put_bytes(out, 0, b"the job's number is ");
+    let a = put_bytes(out, 0, words);
     let b = put_value(out, a, v);
-    tell(out, b, b": it lies from 0 to ", NUMBER, b"")
+    tell(out, b, b": it lies from 0 to ", most, b"")
 }
 
 pub fn put_far(out: &mut [u8], far: Far) -> usize
     ensures { λ r. ⌜ Says sentenceMax (now (out .entry)) (now (out .exit)) 0 r (farWords far) ⌝ }
 {
     match far {
-        Far::Job(v) => put_job_far(out, v),
+        Far::Job(v) => put_count_far(out, b"the job's number is ", v, NUMBER),
+        Far::Visit(v) => put_count_far(out, b"the visit's number is ", v, VISIT),
         Far::End(k, v) => put_far_not(out, b"number ", k, v, b": ends", END as u64),
         Far::Entry(k, v) => put_far_not(out, b"number ", k, v, b": entries", ENTRY as u64),
         Far::Coefficient(k, v) => put_far_not(

@@ -25,6 +25,10 @@ stepsMax = 1000
 abbrev pub numberMax : ℕ
 numberMax = 999999999
 
+-- P12: "0 for a job run alone, at most 999,999,999"
+abbrev pub visitMax : ℕ
+visitMax = 999999999
+
 -- "Box ends: -262,144 to 262,144 (4.0 either way)"
 abbrev pub endMax : ℕ
 endMax = 262144

@@ -13,6 +13,8 @@ pub const TEXT: usize = 4096;
 pub const STEPS: u64 = 1000;
 // The largest job number.
 pub const NUMBER: u64 = 999999999;
+// The largest visit number.
+pub const VISIT: u64 = 999999999;
 // A box end, either way.
 pub const END: i64 = 262144;
 // An end of an image that is handed in, either way: 2 to the power 46.

@@ -28,6 +28,7 @@ pub fn key_of(form: Form) -> Keyed {
         Form::Sided(_) => Keyed::By(Key::Row),
         Form::Terms(_) => Keyed::By(Key::Eq),
         Form::Steps => Keyed::By(Key::Steps),
+        Form::Visit => Keyed::By(Key::Visit),
         Form::Verdict => Keyed::By(Key::Verdict),
         Form::Low => Keyed::By(Key::Lo),
         Form::Nothing => Keyed::None,
@@ -93,6 +94,7 @@ pub fn job_form(text: &[u8], at: usize, line: JobLine, head: Head) -> Form
 pub fn result_form(line: ResultLine, n: usize) -> Form {
     match line {
         ResultLine::Number => Form::Number,
+        ResultLine::Visit => Form::Visit,
         ResultLine::Verdict => Form::Verdict,
         ResultLine::Steps => Form::Steps,
         ResultLine::Lo => Form::Low,

@@ -19,6 +19,7 @@ pub enum Key {
     Steps,
     Eq,
     Row,
+    Visit,
     Verdict,
 }
 
@@ -35,6 +36,7 @@ pub enum Form {
     Sided(usize),
     Terms(usize),
     Steps,
+    Visit,
     Verdict,
     Low,
     Nothing,
@@ -102,6 +104,7 @@ pub enum Misspelling {
 // Fault 4: the number and its place.
 pub enum Far {
     Job(i64),
+    Visit(i64),
     End(usize, i64),
     Entry(usize, i64),
     Coefficient(usize, i64),

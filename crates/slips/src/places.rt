@@ -115,6 +115,7 @@ pub fn past_key(text: &[u8], at: usize, key: Key) -> usize
         Key::Steps => past(text, at, b"steps="),
         Key::Eq => past(text, at, b"eq="),
         Key::Row => past(text, at, b"row="),
+        Key::Visit => past(text, at, b"visit="),
         Key::Verdict => past(text, at, b"verdict="),
     }
 }

@@ -92,6 +92,9 @@ fn key_there(text: &[u8], at: usize) -> Keyed
     if at < past_key(text, at, Key::Row) {
         return Keyed::By(Key::Row);
     }
+    if at < past_key(text, at, Key::Visit) {
+        return Keyed::By(Key::Visit);
+    }
     if at < past_key(text, at, Key::Verdict) {
         return Keyed::By(Key::Verdict);
     }
@@ -157,6 +160,7 @@ fn keyed(text: &[u8], from: usize, form: Form, n: usize) -> Misspelling
         Form::Sided(m) => numbers(text, from, m),
         Form::Terms(_) => terms(text, from, n),
         Form::Steps => only_number(text, from),
+        Form::Visit => only_number(text, from),
         Form::Verdict => word(text, from),
         Form::Low => numbers(text, from, 1),
         Form::Nothing => Misspelling::Line(LineSlip::Extra),

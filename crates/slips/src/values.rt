@@ -116,6 +116,7 @@ pub fn far(text: &[u8], from: usize, form: Form, n: usize) -> Far
 {
     match form {
         Form::Number => Far::Job(value(text, from)),
+        Form::Visit => Far::Visit(value(text, from)),
         Form::Unpinned(_) => far_end(text, from),
         Form::Numbers(key, _) => far_number(text, from, key),
         Form::Sided(_) => far_entry(text, from),

@@ -42,6 +42,10 @@ rowKey = 114 ∷ 111 ∷ 119 ∷ 61 ∷ []
 abbrev pub eqKey : List ℕ
 eqKey = 101 ∷ 113 ∷ 61 ∷ []
 
+-- visit=
+abbrev pub visitKey : List ℕ
+visitKey = 118 ∷ 105 ∷ 115 ∷ 105 ∷ 116 ∷ 61 ∷ []
+
 -- verdict=
 abbrev pub verdictKey : List ℕ
 verdictKey = 118 ∷ 101 ∷ 114 ∷ 100 ∷ 105 ∷ 99 ∷ 116 ∷ 61 ∷ []

@@ -106,6 +106,12 @@ pub fn result_number(a: Result, number: u64) -> Result {
     r
 }
 
+pub fn result_visit(a: Result, visit: u64) -> Result {
+    let mut r = a;
+    r.visit = visit;
+    r
+}
+
 pub fn result_unknowns(a: Result, n: usize) -> Result {
     let mut r = a;
     r.n = n;

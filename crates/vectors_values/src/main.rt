@@ -16,6 +16,7 @@ use changes::result_ends;
 use changes::result_number;
 use changes::result_steps;
 use changes::result_unknowns;
+use changes::result_visit;
 use changes::right;
 use changes::steps;
 use changes::unknowns;
@@ -100,6 +101,17 @@ fn results() {
     let r = values::result();
     result(b"result", r);
     result(b"result number 1000000000", result_number(r, 1000000000));
+    result(b"result visit 999999999", result_visit(r, 999999999));
+    result(b"result visit 1000000000", result_visit(r, 1000000000));
+    result(b"result visit at most", result_visit(r, MOST));
+    result(
+        b"result number and visit",
+        result_visit(result_number(r, 1000000000), 1000000000),
+    );
+    result(
+        b"result visit and steps",
+        result_steps(result_visit(r, 1000000000), 1001),
+    );
     result(b"result steps 1001", result_steps(r, 1001));
     result(b"result n 0", result_unknowns(r, 0));
     result(b"result n 7", result_unknowns(r, 7));
@@ -128,9 +140,9 @@ fn job_rooms() {
 
 fn result_rooms() {
     let r = values::result();
-    let mut exact = [b'.'; 49];
+    let mut exact = [b'.'; 57];
     result_into(r, &mut exact);
-    let mut short = [b'.'; 48];
+    let mut short = [b'.'; 56];
     result_into(r, &mut short);
     let mut byte = [b'.'; 1];
     result_into(result_unknowns(r, 0), &mut byte);

@@ -128,6 +128,7 @@ pub fn result() -> Result {
     let hi = pair(3, 0);
     Result {
         number: 41,
+        visit: 7,
         verdict: Verdict::Stalled,
         steps: 1000,
         n: 2,

@@ -70,6 +70,11 @@ returns-13 c =
     rw (c .before .before .before .before .before .enum-told7 .given .1)
     (says-most _ (omega arith) (says-words (c .before .before .put-bytes7 .ensures)))
 
+returns-14 : tie.Need-returns-14
+returns-14 c =
+    rw (c .before .before .before .before .before .enum-told8 .given .1)
+    (says-most _ (omega arith) (says-words (c .before .before .put-bytes8 .ensures)))
+
 pub put-form-spec : {M : Type 1} → statement M
 put-form-spec =
     tie.close
@@ -79,8 +84,9 @@ put-form-spec =
     (λ c. search needs) (λ c κs. search needs) (λ c. search needs) (λ c κs. search needs) (λ c. search needs)
     (λ c κs. search needs) (λ c. search needs) (λ c. search needs) (λ c κs. search needs) (λ c. search needs)
     (λ c. search needs) (λ c κs. search needs) (λ c. search needs) (λ c. search needs) (λ c κs. search needs)
-    (λ c. search needs) (λ c. search needs) (λ c κs. search needs) (λ c. search needs) returns (λ c. search needs)
-    returns-2 (λ c. search needs) returns-3 (λ c. search needs) returns-4 (λ c. search needs) returns-5
-    (λ c. search needs) returns-6 (λ c. search needs) returns-7 (λ c. search needs) returns-8 (λ c. search needs)
-    returns-9 (λ c. search needs) returns-10 (λ c. search needs) returns-11 (λ c. search needs) returns-12
-    (λ c. search needs) returns-13)
+    (λ c. search needs) (λ c. search needs) (λ c κs. search needs) (λ c. search needs) (λ c. search needs)
+    (λ c κs. search needs) (λ c. search needs) returns (λ c. search needs) returns-2 (λ c. search needs) returns-3
+    (λ c. search needs) returns-4 (λ c. search needs) returns-5 (λ c. search needs) returns-6 (λ c. search needs)
+    returns-7 (λ c. search needs) returns-8 (λ c. search needs) returns-9 (λ c. search needs) returns-10
+    (λ c. search needs) returns-11 (λ c. search needs) returns-12 (λ c. search needs) returns-13 (λ c. search needs)
+    returns-14)

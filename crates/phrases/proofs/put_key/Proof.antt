@@ -60,6 +60,11 @@ returns-11 c =
     rw (c .before .before .before .before .before .enum-told11 .given .1)
     (says-most _ (omega arith) (says-words (c .before .before .put-bytes11 .ensures)))
 
+returns-12 : tie.Need-returns-12
+returns-12 c =
+    rw (c .before .before .before .before .before .enum-told12 .given .1)
+    (says-most _ (omega arith) (says-words (c .before .before .put-bytes12 .ensures)))
+
 pub put-key-spec : {M : Type 1} → statement M
 put-key-spec =
     tie.close
@@ -69,7 +74,8 @@ put-key-spec =
     (λ c. search needs) (λ c. search needs) (λ c κs. search needs) (λ c. search needs) (λ c. search needs)
     (λ c κs. search needs) (λ c. search needs) (λ c. search needs) (λ c κs. search needs) (λ c. search needs)
     (λ c. search needs) (λ c κs. search needs) (λ c. search needs) (λ c. search needs) (λ c κs. search needs)
-    (λ c. search needs) (λ c. search needs) (λ c κs. search needs) (λ c. search needs) returns (λ c. search needs)
-    returns-2 (λ c. search needs) returns-3 (λ c. search needs) returns-4 (λ c. search needs) returns-5
-    (λ c. search needs) returns-6 (λ c. search needs) returns-7 (λ c. search needs) returns-8 (λ c. search needs)
-    returns-9 (λ c. search needs) returns-10 (λ c. search needs) returns-11)
+    (λ c. search needs) (λ c. search needs) (λ c κs. search needs) (λ c. search needs) (λ c. search needs)
+    (λ c κs. search needs) (λ c. search needs) returns (λ c. search needs) returns-2 (λ c. search needs) returns-3
+    (λ c. search needs) returns-4 (λ c. search needs) returns-5 (λ c. search needs) returns-6 (λ c. search needs)
+    returns-7 (λ c. search needs) returns-8 (λ c. search needs) returns-9 (λ c. search needs) returns-10
+    (λ c. search needs) returns-11 (λ c. search needs) returns-12)

@@ -58,10 +58,10 @@ returns-8 c =
 returns-9 : tie.Need-returns-9
 unfolding slipWords
 returns-9 c =
-    let told = c .before .before .before .before .before .slip6 .given in
+    let told = c .before .before .before .before .before .before .slip6 .given in
     let fits0 : SFits w64 (told .0 .0) = search needs in
     rw (told .1)
-    (says-most _ (omega arith) (rw (toZ-ofZ fits0) at (c .before .before .put-steps .ensures)))
+    (says-most _ (omega arith) (rw (toZ-ofZ fits0) at (c .before .before .put-count-far .ensures)))
 
 returns-10 : tie.Need-returns-10
 unfolding slipWords
@@ -77,7 +77,7 @@ put-slip-spec =
     (tie.spec (λ c. search needs) (λ c. search needs) (λ c κs. search needs) (λ c. search needs) (λ c κs. search needs)
     (λ c. search needs) (λ c κs. search needs) (λ c. search needs) (λ c κs. search needs) (λ c. search needs)
     (λ c κs. search needs) (λ c. search needs) (λ c κs. search needs) (λ c. search needs) (λ c κs. search needs)
-    (λ c. search needs) (λ c κs. search needs) (λ c. search needs) (λ c κs. search needs) returns (λ c. search needs)
-    returns-2 (λ c. search needs) returns-3 (λ c. search needs) returns-4 (λ c. search needs) returns-5
-    (λ c. search needs) returns-6 (λ c. search needs) returns-7 (λ c. search needs) returns-8 (λ c. search needs)
-    returns-9 (λ c. search needs) returns-10)
+    (λ c. search needs) (λ c. search needs) (λ c κs. search needs) (λ c. search needs) (λ c κs. search needs) returns
+    (λ c. search needs) returns-2 (λ c. search needs) returns-3 (λ c. search needs) returns-4 (λ c. search needs)
+    returns-5 (λ c. search needs) returns-6 (λ c. search needs) returns-7 (λ c. search needs) returns-8
+    (λ c. search needs) returns-9 (λ c. search needs) returns-10)
