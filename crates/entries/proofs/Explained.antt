@@ -26,6 +26,10 @@ number-some Fault.Terms = omega arith
 number-some Fault.ShortBuffer = omega arith
 number-some Fault.Steps = omega arith
 number-some Fault.Pin = omega arith
+number-some Fault.Full = omega arith
+number-some Fault.Visits = omega arith
+number-some Fault.NotOpen = omega arith
+number-some Fault.Table = omega arith
 
 module _ {old new : List ℕ} {r : ℕ} where
   pub no-fault : (st : Status) → Explains (foundIn st) old new r → told st .number ≡ 0 → (r ≡ 0) × (new ≡ old)

@@ -1,5 +1,4 @@
 pub mod Rows
-pub mod Lines
 pub mod Texts
 pub mod Faults
 pub mod Answered

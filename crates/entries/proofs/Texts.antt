@@ -22,7 +22,8 @@ use Rattle.job_form.proofs.Answers as job
 use Rattle.result_form.specs.ResultForm.{resultForm, readResult}
 use Rattle.result_form.proofs.Answers as result
 use Rattle.entries.specs.Numbers.{Told, told, tell}
-use Rattle.entries.proofs.Lines.{job-says, result-says}
+use Rattle.job_form.proofs.Faults.{job-says}
+use Rattle.result_form.proofs.Faults.{result-says}
 
 -- the faults of a form are those of document 01: 1 for its length, and no line has 1 or 7
 record Faults {L X : Type 0} (g : Form Fault L X) : Type 0 where

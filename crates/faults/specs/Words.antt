@@ -16,12 +16,16 @@ faultNumber Fault.Terms = 6
 faultNumber Fault.ShortBuffer = 7
 faultNumber Fault.Steps = 8
 faultNumber Fault.Pin = 9
+faultNumber Fault.Full = 13
+faultNumber Fault.Visits = 14
+faultNumber Fault.NotOpen = 15
+faultNumber Fault.Table = 16
 
--- the last of these numbers
+-- the last number of those that a text can have
 abbrev pub faultMax : ℕ
 faultMax = 9
 
--- the fault of a number, 1 to the last
+-- the fault of a number
 unfoldable pub faultOf : ℕ → Fault
 faultOf k =
     cond (eqb k 1) Fault.LongText
@@ -31,7 +35,11 @@ faultOf k =
     (cond (eqb k 5) Fault.Crossed
     (cond (eqb k 6) Fault.Terms
     (cond (eqb k 7) Fault.ShortBuffer
-    (cond (eqb k 8) Fault.Steps Fault.Pin)))))))
+    (cond (eqb k 8) Fault.Steps
+    (cond (eqb k 9) Fault.Pin
+    (cond (eqb k 13) Fault.Full
+    (cond (eqb k 14) Fault.Visits
+    (cond (eqb k 15) Fault.NotOpen Fault.Table)))))))))))
 
 -- "A fault returns its number and a line": 0 and 0 where there is none
 abbrev pub numberOf : Status → ℕ

@@ -14,9 +14,13 @@ pub enum Fault {
     ShortBuffer,
     Steps,
     Pin,
+    Full,
+    Visits,
+    NotOpen,
+    Table,
 }
 
-// The last of their numbers.
+// The last number of those that a text can have.
 pub const FAULTS: u64 = 9;
 
 // What the check of one line finds.
@@ -50,10 +54,14 @@ pub fn fault_number(f: Fault) -> u64
         Fault::ShortBuffer => 7,
         Fault::Steps => 8,
         Fault::Pin => 9,
+        Fault::Full => 13,
+        Fault::Visits => 14,
+        Fault::NotOpen => 15,
+        Fault::Table => 16,
     }
 }
 
-// The fault of a number, 1 to the last.
+// The fault of a number.
 pub fn fault_of(number: u64) -> Fault
     ensures { λ r. ⌜ r ≡ faultOf number ⌝ }
 {
@@ -66,7 +74,11 @@ pub fn fault_of(number: u64) -> Fault
         6 => Fault::Terms,
         7 => Fault::ShortBuffer,
         8 => Fault::Steps,
-        _ => Fault::Pin,
+        9 => Fault::Pin,
+        13 => Fault::Full,
+        14 => Fault::Visits,
+        15 => Fault::NotOpen,
+        _ => Fault::Table,
     }
 }
 

@@ -3,6 +3,7 @@ pub mod System
 pub mod Reached
 pub mod Fourth
 pub mod Back
+pub mod Faults
 pub mod Lows
 pub mod FourthRead
 pub mod Grows

@@ -1,12 +1,12 @@
--- Faults 1 and 7 are of a whole text: no line has them.
-use Prim.Native.Nat.{ℕ, _+_, _*_}
+-- Faults 1 and 7 are of a whole text, those over 9 of other things: no line has them.
+use Prim.Native.Nat.{ℕ, _+_, _*_, _≤_}
 use native.Mathlib.Omega.{arith}
 use mathlib.Core.Path.{_≡_}
 use mathlib.Core.Bool.{Bool, true, false, not}
 use mathlib.Core.List.{List}
 use lib.IntN.{ℤ}
 use Rattle.sizes.specs.Sizes.{nMax, numberMax, visitMax, stepsMax}
-use Rattle.faults.specs.Words.{faultNumber}
+use Rattle.faults.specs.Words.{faultNumber, faultMax}
 use Rattle.faults.specs.Checks.{badUnless, firstOf}
 use Rattle.faults.specs.declared.Fault.{Fault}
 use Rattle.faults.specs.declared.Finding.{Finding}
@@ -31,27 +31,28 @@ use Rattle.lines.specs.Texts.{kindText, verdictText}
 pub record OfLine (f : Fault) : Type 0 where
   pub not-long : faultNumber f ≡ 1 → ⊥
   pub not-short : faultNumber f ≡ 7 → ⊥
+  pub of-text : faultNumber f ≤ faultMax
 
 pub spelling : OfLine Fault.Spelling
-spelling = record { not-long = λ e. omega arith; not-short = λ e. omega arith }
+spelling = record { not-long = λ e. omega arith; not-short = λ e. omega arith; of-text = omega arith }
 
 unknowns : OfLine Fault.Unknowns
-unknowns = record { not-long = λ e. omega arith; not-short = λ e. omega arith }
+unknowns = record { not-long = λ e. omega arith; not-short = λ e. omega arith; of-text = omega arith }
 
 beyond : OfLine Fault.Beyond
-beyond = record { not-long = λ e. omega arith; not-short = λ e. omega arith }
+beyond = record { not-long = λ e. omega arith; not-short = λ e. omega arith; of-text = omega arith }
 
 crossed : OfLine Fault.Crossed
-crossed = record { not-long = λ e. omega arith; not-short = λ e. omega arith }
+crossed = record { not-long = λ e. omega arith; not-short = λ e. omega arith; of-text = omega arith }
 
 terms : OfLine Fault.Terms
-terms = record { not-long = λ e. omega arith; not-short = λ e. omega arith }
+terms = record { not-long = λ e. omega arith; not-short = λ e. omega arith; of-text = omega arith }
 
 pin : OfLine Fault.Pin
-pin = record { not-long = λ e. omega arith; not-short = λ e. omega arith }
+pin = record { not-long = λ e. omega arith; not-short = λ e. omega arith; of-text = omega arith }
 
 steps : OfLine Fault.Steps
-steps = record { not-long = λ e. omega arith; not-short = λ e. omega arith }
+steps = record { not-long = λ e. omega arith; not-short = λ e. omega arith; of-text = omega arith }
 
 -- ---- checks
 

@@ -72,6 +72,10 @@ fault-back Fault.Terms = refl
 fault-back Fault.ShortBuffer = refl
 fault-back Fault.Steps = refl
 fault-back Fault.Pin = refl
+fault-back Fault.Full = refl
+fault-back Fault.Visits = refl
+fault-back Fault.NotOpen = refl
+fault-back Fault.Table = refl
 
 fault-some : (f : Fault) → eqb (faultNumber f) 0 ≡ false
 fault-some Fault.LongText = refl
@@ -83,6 +87,10 @@ fault-some Fault.Terms = refl
 fault-some Fault.ShortBuffer = refl
 fault-some Fault.Steps = refl
 fault-some Fault.Pin = refl
+fault-some Fault.Full = refl
+fault-some Fault.Visits = refl
+fault-some Fault.NotOpen = refl
+fault-some Fault.Table = refl
 
 -- where no line is bad yet
 pub state-back : (r : Read) (s : State Fault JobLine Job) → r .fault ≡ 0 → stateOf (withState r s) ≡ s

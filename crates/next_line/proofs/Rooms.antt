@@ -11,7 +11,7 @@ use Rattle.faults.specs.declared.Fault.{Fault}
 use Rattle.faults.specs.Words.{faultNumber, faultMax}
 use Rattle.text.specs.Keys.{startsWith}
 use Rattle.text.specs.Words.{pinKey}
-use Rattle.reading.specs.Got.{Got, after}
+use Rattle.reading.specs.Got.{Got, Blamed, after}
 use Rattle.reading.specs.Lines.{Next, State, heard, step}
 use Rattle.reading.proofs.Told.{fault-got}
 use Rattle.scan.specs.Lines.{lineOf}
@@ -24,8 +24,10 @@ use Rattle.jobs.proofs.LineLaws.{pin-lines-few}
 use Rattle.checks.proofs.CheckLaws.{unknowns-fine}
 use Rattle.lines.specs.Lines.{unknownsOf}
 use Rattle.lines.proofs.Found.{found-fine}
+use Rattle.lines.proofs.Faults.{OfLine, spelling}
 use Rattle.lines.proofs.Unknowns.{unknowns-told}
 use Rattle.job_form.specs.JobForm.{jobForm, jobSays, systemSays, afterSystem}
+use Rattle.job_form.proofs.Faults.{job-says}
 use Rattle.next_line.specs.declared.Read.{Read}
 use Rattle.next_line.specs.State.{kindNumber, placeOf, lineIn, jobOf, withState, lineTaken}
 use Rattle.next_line.specs.Limits.{placeMax, lineMax, kindMax}
@@ -110,15 +112,16 @@ NextRoom x = (placeOf (x .kind) ≤ placeMax) × (x .value .head .n ≤ nMax)
 
 abbrev StateRoom : State Fault JobLine Job → Type 0
 StateRoom (State.at k j) = (placeOf k ≤ placeMax) × (j .head .n ≤ nMax)
-StateRoom (State.bad f m) = m ≤ lineMax
+StateRoom (State.bad f m) = (m ≤ lineMax) × (faultNumber f ≤ faultMax)
 
 abbrev Room : Got Fault (Next JobLine Job) → Type 0
 Room g = (x : Next JobLine Job) → g ≡ Got.got x → NextRoom x
 
-heard-room : (m : ℕ) → m ≤ lineMax → (g : Got Fault (Next JobLine Job)) → Room g → StateRoom (heard m g)
+heard-room : (m : ℕ) → m ≤ lineMax → (g : Got Fault (Next JobLine Job)) → Room g → Blamed OfLine g
+    → StateRoom (heard m g)
 unfolding heard
-heard-room m h (Got.got x) p = p x refl
-heard-room m h (Got.fault f) p = h
+heard-room m h (Got.got x) p of = p x refl
+heard-room m h (Got.fault f) p of = (h, of .blamed f refl .of-text)
 
 after-next : {A : Type 0} (g : Got Fault A) (put : A → Next JobLine Job) → ((x : A) → g ≡ Got.got x → NextRoom (put x))
     → Room (after g put)
@@ -165,8 +168,9 @@ step-room k j l p q = go (jobForm .last k)
     m = jobNumber k (j .head)
 
     go : (b : Bool) → StateRoom (cond b (State.bad Fault.Spelling m) (heard m (jobSays k j l)))
-    go true = number-room k (j .head) p q
-    go false = heard-room m (number-room k (j .head) p q) (jobSays k j l) (says-room k j l p q)
+    go true = (number-room k (j .head) p q, spelling .of-text)
+    go false =
+        heard-room m (number-room k (j .head) p q) (jobSays k j l) (says-room k j l p q) (job-says k j l)
 
 -- ---- all that is read
 
@@ -181,17 +185,6 @@ kind-room : (k : Kind) → kindNumber k ≤ kindMax
 kind-room Kind.Poly = omega arith
 kind-room Kind.Linear = omega arith
 kind-room Kind.Eigen = omega arith
-
-fault-room : (f : Fault) → faultNumber f ≤ faultMax
-fault-room Fault.LongText = omega arith
-fault-room Fault.Spelling = omega arith
-fault-room Fault.Unknowns = omega arith
-fault-room Fault.Beyond = omega arith
-fault-room Fault.Crossed = omega arith
-fault-room Fault.Terms = omega arith
-fault-room Fault.ShortBuffer = omega arith
-fault-room Fault.Steps = omega arith
-fault-room Fault.Pin = omega arith
 
 pub line-taken-fits : (r : Read) (bytes : List ℕ) → ReadFits r → ReadFits (lineTaken r bytes)
 unfolding lineTaken
@@ -209,7 +202,7 @@ line-taken-fits r bytes h = go (eqb (r .fault) 0)
       few = p .1;
     }
     left (State.bad f m) p =
-        record { fault = fault-room f; line = p; next = h .next; kind = h .kind; few = h .few }
+        record { fault = p .1; line = p .0; next = h .next; kind = h .kind; few = h .few }
 
     go : (b : Bool) → ReadFits (cond b (withState r next) r)
     go true =

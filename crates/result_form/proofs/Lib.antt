@@ -1,4 +1,5 @@
 pub mod Back
+pub mod Faults
 pub mod Grows
 pub mod Trips
 pub mod Answers

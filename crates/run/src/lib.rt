@@ -101,7 +101,7 @@ pub fn run_system(
 }
 
 // At most `allowance` steps of a job whose check found nothing, from any box in range on.
-fn run_from(j: Job, x: [Interval; N], allowance: u64) -> Outcome
+pub fn run_from(j: Job, x: [Interval; N], allowance: u64) -> Outcome
     requires { ⌜ checkJob j ≡ Status.Done ⌝ }
     requires { ⌜ BoxIn (j .head .n) (sideAt x) ⌝ }
     ensures { λ r. ⌜ r ≡ runFrom j x allowance ⌝ }

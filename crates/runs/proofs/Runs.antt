@@ -26,6 +26,8 @@ use Rattle.step.specs.Step.{imageOf, imageBox}
 use Rattle.step.specs.Newton.{newtonDen, newtonNum}
 use Rattle.step.specs.Decide.{allMeet, cutBox, decideOf, stepOf}
 use Rattle.step.specs.Meanings.{Strictly}
+use Rattle.step.specs.Values.{boxOf, endsOf}
+use Rattle.step.proofs.Given.{box-back}
 use Rattle.step.proofs.Hold.{middle-in, image-holds, image-keeps, image-at}
 use Rattle.step.proofs.Decisions.{zero-one, Decided, none, unique, stalled, next}
 use Rattle.step.proofs.Decisions.{decided, all-meet, cut-at, cut-inside, cut-ordered, step-is}
@@ -84,13 +86,25 @@ module _ (n : ℕ) (q : ℕ → Equation) (C : ℕ → ℕ → ℤ) where
       by (stalled e s) = rw e onStalled
       by (next e m) = rw e (onNext m)
 
+  -- what holds of a box, of every image and of every cut, holds of the box that is left
+  sides-keep : (P : List Interval → Type 0) → ((y : List Interval) → P (K y)) → ((y : List Interval) → P (cut y))
+      → (a done : ℕ) (x : List Interval) → P x → P (runOf n q C a done x .sides)
+  sides-keep P image left zero done x e = rw run-none e
+  sides-keep P image left (suc a) done x e =
+      by-step x done (λ f. P (f a .sides)) (λ m. e) (λ s. image x) e
+      (λ m. sides-keep P image left a (done + 1) (cut x) (left x))
+
   -- the code's array keeps its length
   pub run-length : (a done : ℕ) (x : List Interval) → length x ≡ nMax → length (runOf n q C a done x .sides) ≡ nMax
   unfolding imageBox cutBox
-  run-length zero done x e = rw run-none e
-  run-length (suc a) done x e =
-      by-step x done (λ f. length (f a .sides) ≡ nMax) (λ m. e) (λ s. length-tab zeroI nMax n _) e
-      (λ m. run-length a (done + 1) (cut x) (length-tab zeroI nMax n _))
+  run-length = sides-keep (λ y. length y ≡ nMax) (λ y. length-tab zeroI nMax n _) (λ y. length-tab zeroI nMax n _)
+
+  -- and zeros past n: a box goes into its ends and comes back
+  pub run-back : n ≤ nMax → (a done : ℕ) (x : List Interval) → boxOf n (endsOf n x) ≡ x
+      → boxOf n (endsOf n (runOf n q C a done x .sides)) ≡ runOf n q C a done x .sides
+  unfolding imageBox cutBox
+  run-back few =
+      sides-keep (λ y. boxOf n (endsOf n y) ≡ y) (λ y. box-back n few _ refl) (λ y. box-back n few _ refl)
 
   -- ---- several steps
   pub run-one : (t : ℕ) (x : List Interval) → runOf n q C 1 t x

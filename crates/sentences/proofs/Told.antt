@@ -18,9 +18,10 @@ use Rattle.slips.specs.declared.Far.{Far}
 use Rattle.slips.specs.declared.Crossing.{Crossing}
 use Rattle.slips.specs.declared.TermSlip.{TermSlip}
 use Rattle.slips.specs.declared.Slip.{Slip}
+use Rattle.slips.specs.declared.RoomSlip.{RoomSlip}
 use Rattle.slips.specs.Slips.{faultOf}
 use Rattle.sentences.specs.Sentences.{lineSlipWords, unlikeWords, wrongTermWords, misspelledWords}
-use Rattle.sentences.specs.Sentences.{farWords, crossedWords, termWords, slipWords}
+use Rattle.sentences.specs.Sentences.{farWords, crossedWords, termWords, roomWords, slipWords}
 
 zero-one : _≡_ {A = ℕ} 0 1 → ⊥
 zero-one e = omega arith
@@ -93,6 +94,13 @@ term-some (TermSlip.Same j k) = refl
 term-some (TermSlip.Order j k) = refl
 term-some TermSlip.Unplaced = refl
 
+room-some : (slip : RoomSlip) → begun (roomWords slip) ≡ true
+unfolding roomWords
+room-some RoomSlip.Full = refl
+room-some RoomSlip.Visits = refl
+room-some RoomSlip.NotOpen = refl
+room-some RoomSlip.Table = refl
+
 slip-begun : (slip : Slip) {f : Fault} → faultOf slip ≡ Finding.Bad f → begun (slipWords slip) ≡ true
 unfolding slipWords
 slip-begun Slip.Nothing e = absurd (zero-one (cc))
@@ -105,6 +113,7 @@ slip-begun (Slip.Terms slip) e = term-some slip
 slip-begun Slip.Short e = refl
 slip-begun (Slip.Steps v) e = refl
 slip-begun (Slip.Pin v slip) e = refl
+slip-begun (Slip.Room slip) e = room-some slip
 
 pub slip-some : (slip : Slip) {f : Fault} → faultOf slip ≡ Finding.Bad f → 0 < length (slipWords slip)
 slip-some slip e = some (slipWords slip) (slip-begun slip e)
@@ -121,3 +130,4 @@ slip-none (Slip.Terms slip) e = absurd (zero-one (cc))
 slip-none Slip.Short e = absurd (zero-one (cc))
 slip-none (Slip.Steps v) e = absurd (zero-one (cc))
 slip-none (Slip.Pin v slip) e = absurd (zero-one (cc))
+slip-none (Slip.Room slip) e = absurd (zero-one (cc))

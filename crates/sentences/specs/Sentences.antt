@@ -19,6 +19,7 @@ use Rattle.slips.specs.declared.Far.{Far}
 use Rattle.slips.specs.declared.Crossing.{Crossing}
 use Rattle.slips.specs.declared.TermSlip.{TermSlip}
 use Rattle.slips.specs.declared.PinSlip.{PinSlip}
+use Rattle.slips.specs.declared.RoomSlip.{RoomSlip}
 use Rattle.slips.specs.declared.Slip.{Slip}
 use Rattle.slips.specs.Slips.{faultOf}
 use Rattle.phrases.specs.Ascii.{ascii}
@@ -169,6 +170,12 @@ pinSlipWords (PinSlip.Out most) = pinRangeWords most
 abbrev pub pinnedWords : ℤ → PinSlip → List ℕ
 pinnedWords v slip = ascii "pin is " ++ valueWords v ++ pinSlipWords slip
 
+unfoldable pub roomWords : RoomSlip → List ℕ
+roomWords RoomSlip.Full = ascii "all rooms are taken: close one first"
+roomWords RoomSlip.Visits = ascii "every visit number is handed out: clear the table first"
+roomWords RoomSlip.NotOpen = ascii "this slot does not hold this visit: it was closed, or never opened"
+roomWords RoomSlip.Table = ascii "the bytes are no table of rooms: too few, or not only changed by its calls"
+
 unfoldable pub slipWords : Slip → List ℕ
 slipWords Slip.Nothing = []
 slipWords Slip.Long = counted (ascii "a text has at most ") textMax (ascii " bytes, this one has more")
@@ -180,6 +187,7 @@ slipWords (Slip.Terms slip) = termWords slip
 slipWords Slip.Short = ascii "the answer is longer than its buffer"
 slipWords (Slip.Steps v) = countFarWords (ascii "steps is ") v stepsMax
 slipWords (Slip.Pin v slip) = pinnedWords v slip
+slipWords (Slip.Room slip) = roomWords slip
 
 -- the sentence of a slip that is the fault which the reader found stands from the start of the buffer on, as far as
 -- there is room, and every other byte is the old one; r is its length

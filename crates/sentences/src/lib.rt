@@ -10,6 +10,7 @@ use sizes::N;
 use sizes::STEPS;
 use sizes::TEXT;
 use slips::PinSlip;
+use slips::RoomSlip;
 use slips::Slip;
 use spelled::put_misspelled;
 use text_slips::job_slip;
@@ -24,7 +25,7 @@ ghost use Rattle.result_form.specs.ResultForm.{readResult};
 ghost use Rattle.slips.specs.declared.Slip.{Slip};
 ghost use Rattle.slips.specs.Slips.{foundIn};
 ghost use Rattle.phrases.specs.Says.{Says, sentenceMax};
-ghost use Rattle.sentences.specs.Sentences.{unknownsWords, pinnedWords, slipWords, Explains};
+ghost use Rattle.sentences.specs.Sentences.{unknownsWords, pinnedWords, roomWords, slipWords, Explains};
 
 // The longest sentence: a buffer of this size has room for any.
 pub const SENTENCE: usize = 256;
@@ -69,6 +70,29 @@ fn put_pinned(out: &mut [u8], v: i64, slip: PinSlip) -> usize
     }
 }
 
+fn put_room(out: &mut [u8], slip: RoomSlip) -> usize
+    ensures { λ r. ⌜ Says sentenceMax (now (out .entry)) (now (out .exit)) 0 r (roomWords slip) ⌝ }
+{
+    match slip {
+        RoomSlip::Full => put_bytes(out, 0, b"all rooms are taken: close one first"),
+        RoomSlip::Visits => put_bytes(
+            out,
+            0,
+            b"every visit number is handed out: clear the table first",
+        ),
+        RoomSlip::NotOpen => put_bytes(
+            out,
+            0,
+            b"this slot does not hold this visit: it was closed, or never opened",
+        ),
+        RoomSlip::Table => put_bytes(
+            out,
+            0,
+            b"the bytes are no table of rooms: too few, or not only changed by its calls",
+        ),
+    }
+}
+
 fn put_slip(out: &mut [u8], slip: Slip) -> usize
     ensures { λ r. ⌜ Says sentenceMax (now (out .entry)) (now (out .exit)) 0 r (slipWords slip) ⌝ }
 {
@@ -83,6 +107,7 @@ fn put_slip(out: &mut [u8], slip: Slip) -> usize
         Slip::Short => put_short(out),
         Slip::Steps(v) => put_count_far(out, b"steps is ", v, STEPS),
         Slip::Pin(v, slip) => put_pinned(out, v, slip),
+        Slip::Room(slip) => put_room(out, slip),
     }
 }
 

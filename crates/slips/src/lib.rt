@@ -141,6 +141,14 @@ pub struct Spelled {
     pub slip: Misspelling,
 }
 
+// Faults 13 to 16: of a table of rooms, and of no text.
+pub enum RoomSlip {
+    Full,
+    Visits,
+    NotOpen,
+    Table,
+}
+
 // A fault with what its sentence tells.
 pub enum Slip {
     Nothing,
@@ -153,4 +161,5 @@ pub enum Slip {
     Short,
     Steps(i64),
     Pin(i64, PinSlip),
+    Room(RoomSlip),
 }

@@ -14,6 +14,7 @@ use result_read::read_result;
 use sizes::N;
 use slips::Form;
 use slips::Key;
+use slips::RoomSlip;
 use slips::Slip;
 use slips::Spelled;
 use slips::forms::Keyed;
@@ -112,6 +113,10 @@ fn slip_of(text: &[u8], f: Fault, s: Seen) -> Slip
         Fault::ShortBuffer => Slip::Short,
         Fault::Steps => Slip::Steps(value(text, s.from)),
         Fault::Pin => pinned(text, s),
+        Fault::Full => Slip::Room(RoomSlip::Full),
+        Fault::Visits => Slip::Room(RoomSlip::Visits),
+        Fault::NotOpen => Slip::Room(RoomSlip::NotOpen),
+        Fault::Table => Slip::Room(RoomSlip::Table),
     }
 }
 

@@ -71,13 +71,20 @@ returns-10 c =
     rw (told .1)
     (says-most _ (omega arith) (rw (toZ-ofZ fits0) at (c .before .before .put-pinned .ensures)))
 
+returns-11 : tie.Need-returns-11
+unfolding slipWords
+returns-11 c =
+    rw (c .before .before .before .before .before .slip8 .given .1)
+    (says-most _ (omega arith) (c .before .before .put-room .ensures))
+
 pub put-slip-spec : {M : Type 1} → statement M
 put-slip-spec =
     tie.close
     (tie.spec (λ c. search needs) (λ c. search needs) (λ c κs. search needs) (λ c. search needs) (λ c κs. search needs)
     (λ c. search needs) (λ c κs. search needs) (λ c. search needs) (λ c κs. search needs) (λ c. search needs)
     (λ c κs. search needs) (λ c. search needs) (λ c κs. search needs) (λ c. search needs) (λ c κs. search needs)
-    (λ c. search needs) (λ c. search needs) (λ c κs. search needs) (λ c. search needs) (λ c κs. search needs) returns
-    (λ c. search needs) returns-2 (λ c. search needs) returns-3 (λ c. search needs) returns-4 (λ c. search needs)
-    returns-5 (λ c. search needs) returns-6 (λ c. search needs) returns-7 (λ c. search needs) returns-8
-    (λ c. search needs) returns-9 (λ c. search needs) returns-10)
+    (λ c. search needs) (λ c. search needs) (λ c κs. search needs) (λ c. search needs) (λ c κs. search needs)
+    (λ c. search needs) (λ c κs. search needs) returns (λ c. search needs) returns-2 (λ c. search needs) returns-3
+    (λ c. search needs) returns-4 (λ c. search needs) returns-5 (λ c. search needs) returns-6 (λ c. search needs)
+    returns-7 (λ c. search needs) returns-8 (λ c. search needs) returns-9 (λ c. search needs) returns-10
+    (λ c. search needs) returns-11)

@@ -1,4 +1,4 @@
--- Faults 1 and 7 are of a whole text: no line of a job or of a result has them.
+-- The faults that a line of a job may have.
 use Prim.Native.Nat.{ℕ}
 use mathlib.Core.List.{List}
 use Rattle.text.specs.Keys.{startsWith}
@@ -7,15 +7,12 @@ use Rattle.faults.specs.declared.Fault.{Fault}
 use Rattle.jobs.specs.declared.Kind.{Kind}
 use Rattle.jobs.specs.declared.Job.{Job}
 use Rattle.jobs.specs.declared.JobLine.{JobLine}
-use Rattle.jobs.specs.declared.Result.{Result}
-use Rattle.jobs.specs.declared.ResultLine.{ResultLine}
 use Rattle.reading.specs.Got.{Blamed}
 use Rattle.reading.proofs.Blamed.{blamed-fault, blamed-either, blamed-after}
-use Rattle.lines.proofs.Faults.{OfLine, spelling, number-of-line, visit-of-line, kind-of-line, unknowns-of-line}
+use Rattle.lines.proofs.Faults.{OfLine, spelling, number-of-line, kind-of-line, unknowns-of-line}
 use Rattle.lines.proofs.Faults.{pin-of-line, low-of-line, high-of-line, inverse-of-line, steps-of-line}
-use Rattle.lines.proofs.Faults.{equation-of-line, sided-of-line, row-of-line, verdict-of-line, any-low-of-line}
+use Rattle.lines.proofs.Faults.{equation-of-line, sided-of-line, row-of-line}
 use Rattle.job_form.specs.JobForm.{systemSays, jobSays}
-use Rattle.result_form.specs.ResultForm.{resultSays}
 
 system-says : (k : Kind) (i : ℕ) (j : Job) (l : List ℕ) → Blamed OfLine (systemSays k i j l)
 unfolding systemSays
@@ -37,13 +34,3 @@ job-says JobLine.Inv j l = blamed-after _ _ (inverse-of-line l (j .head .n))
 job-says JobLine.Steps j l = blamed-after _ _ (steps-of-line l)
 job-says (JobLine.System i) j l = system-says (j .head .kind) i j l
 job-says JobLine.End j l = blamed-fault Fault.Spelling spelling
-
-pub result-says : (k : ResultLine) (r : Result) (l : List ℕ) → Blamed OfLine (resultSays k r l)
-unfolding resultSays
-result-says ResultLine.Number r l = blamed-after _ _ (number-of-line l)
-result-says ResultLine.Visit r l = blamed-after _ _ (visit-of-line l)
-result-says ResultLine.Verdict r l = blamed-after _ _ (verdict-of-line l)
-result-says ResultLine.Steps r l = blamed-after _ _ (steps-of-line l)
-result-says ResultLine.Lo r l = blamed-after _ _ (any-low-of-line l)
-result-says ResultLine.Hi r l = blamed-after _ _ (high-of-line l (r .n) (r .lo))
-result-says ResultLine.End r l = blamed-fault Fault.Spelling spelling

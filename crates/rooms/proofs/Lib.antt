@@ -1,0 +1,12 @@
+pub mod Slots
+pub mod Lowest
+pub mod Written
+pub mod Whole
+pub mod PutReading
+pub mod Visited
+pub mod Opening
+pub mod Stepping
+pub mod Kept
+pub mod Free
+pub mod After
+pub mod Formed

@@ -1,0 +1,20 @@
+-- `rooms::table::room_at` meets its contract.
+use native.Mathlib.Omega.{arith}
+use mathlib.Core.Path.{_∙_}
+use Rattle.rooms.specs.Table.{roomOf, slotFrom, slotSize}
+use Rattle.rooms.proofs.Slots.{cut-part}
+use borrow.Author.Needs.{needs}
+use Rattle.rooms.proofs.table.room_at.Statement.{statement}
+use Rattle.rooms.proofs.table.room_at.Tie as tie
+
+returns : tie.Need-returns
+returns c =
+    let start = c .before .before .before .before in
+    rw (cut-part (start .args .table .now) (slotFrom (start .args .slot)) slotSize, c .before .before .number-at .ensures) at
+    (c .room-of .ensures)
+
+pub room-at-spec : {M : Type 1} → statement M
+room-at-spec =
+    tie.close
+    (tie.spec (λ c. search needs) (λ c. search needs) (λ c κs. search needs) (λ c. search needs) (λ c. search needs)
+    (λ c. search needs) (λ c. search needs) (λ c κs. search needs) returns)
