@@ -10,3 +10,9 @@ pub mod Kept
 pub mod Free
 pub mod After
 pub mod Formed
+pub mod Isolated
+pub mod Histories
+pub mod Stale
+pub mod Own
+pub mod Refusals
+pub mod RequestP12

@@ -53,10 +53,13 @@ unfoldable pub ownSteps : ℕ → ℕ → List ℕ → List Call → ℕ
 ownSteps k v t [] = 0
 ownSteps k v t (c ∷ h) = ownStep k v t c + ownSteps k v (after t c) h
 
--- the holder does not close the visit
+-- a call that does not close the visit, and a history of such
+unfoldable pub Keeps : ℕ → ℕ → Call → Type 0
+Keeps k v (Call.opens text) = Unit {0}
+Keeps k v (Call.steps slot visit space) = Unit {0}
+Keeps k v (Call.reads slot visit space) = Unit {0}
+Keeps k v (Call.closes slot visit) = shows k v slot visit ≡ false
+
 unfoldable pub Stays : ℕ → ℕ → List Call → Type 0
 Stays k v [] = Unit {0}
-Stays k v (Call.opens text ∷ h) = Stays k v h
-Stays k v (Call.steps slot visit space ∷ h) = Stays k v h
-Stays k v (Call.reads slot visit space ∷ h) = Stays k v h
-Stays k v (Call.closes slot visit ∷ h) = (shows k v slot visit ≡ false) × Stays k v h
+Stays k v (c ∷ h) = Keeps k v c × Stays k v h

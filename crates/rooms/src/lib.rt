@@ -2,6 +2,11 @@
 mod calls;
 mod table;
 
+pub use calls::clear;
+pub use calls::close;
+pub use calls::open;
+pub use calls::reading;
+pub use calls::step;
 use faults::Status;
 use jobs::Job;
 use jobs::Result;

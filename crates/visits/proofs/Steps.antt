@@ -130,3 +130,8 @@ module _ (j : Job) (checked : checkJob j ≡ Status.Done) (visit : ℕ) where
   pub last-run : reads (j .steps) ≡ readingOf visit j (outcomeOf j)
   unfolding outcomeOf
   last-run = refl
+
+  -- a reading that is spent has all its steps
+  pub reads-spent : (a : ℕ) → reads a .verdict ≡ Verdict.Spent → reads a .steps ≡ a
+  unfolding resultOf
+  reads-spent = steps-spent
