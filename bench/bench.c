@@ -1,5 +1,6 @@
 /* Times the library beside the peer, after both have given the same answers: bench REQUESTS, a file of requests.
- * For bench/count it also tells the name of a sort of job, bench name SORT, and does some work of one of the two: bench SOLVER WORK SORT TIMES. */
+ * For bench/count it also tells the name of a sort of job, bench name SORT, and does some work of one of the two: bench SOLVER WORK SORT TIMES, or of the table of
+ * rooms bench SOLVER room-CALL TAKEN TIMES. */
 #include <stdio.h>
 #include <stdlib.h>
 #include <string.h>
@@ -7,6 +8,7 @@
 #include "in_parts.h"
 #include "jobs.h"
 #include "peer.h"
+#include "room_times.h"
 #include "same.h"
 #include "timing.h"
 
@@ -166,7 +168,7 @@ enum { MORE_TERMS = 129 };
 static void check_all(const char *requests)
 {
     size_t count;
-    if (!same_answers_in_file(requests, &count))
+    if (!same_answers_in_file(requests, &count) || !same_room_times())
         exit(1);
     struct text text;
     for (size_t s = 0; s < sort_count; s++) {
@@ -204,12 +206,14 @@ static int64_t depth_for(int boxes)
     return boxes <= 1 ? 0 : 1 + depth_for(boxes / 2);
 }
 
-/* The work of `times` steps on a job that takes many, of as many boxes of one that is halved, or of as many calls on
- * one that is soon decided. */
+/* The work of `times` steps on a job that takes many, of as many boxes of one that is halved, of as many calls on one that
+ * is soon decided, or of as many on each of eight rooms, where `sort` says how many are taken. */
 static int do_work(const char *solver_name, const char *work, size_t sort, int times)
 {
     struct text text;
     int solver = strcmp(solver_name, "peer") == 0 ? PEER : LIBRARY;
+    if (strncmp(work, "room-", strlen("room-")) == 0)
+        return !do_room_work(solver, work + strlen("room-"), sort, times);
     if (sort >= sort_count)
         return 1;
     if (strcmp(work, "steps") == 0) {
@@ -249,5 +253,6 @@ int main(int count, char **words)
     print_worst(worst);
     print_all_in_parts();
     print_all_halved();
+    print_room_times();
     return 0;
 }

@@ -1,6 +1,6 @@
 /* The peer's entries for a whole text. */
 #include "peer.h"
-#include "peer_result.h"
+#include "peer_answer.h"
 
 floodrafter_answer peer_solve(const uint8_t *text, size_t text_len, uint8_t *out, size_t out_len)
 {

@@ -50,7 +50,9 @@ struct job {
     int64_t rows[UNKNOWNS_MAX][UNKNOWNS_MAX + 1];
 };
 
+/* `visit` is "0 for a job run alone". */
 struct outcome {
+    int64_t visit;
     enum verdict verdict;
     int64_t steps;
     struct interval box[UNKNOWNS_MAX];

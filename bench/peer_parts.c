@@ -1,7 +1,7 @@
 #include "peer_parts.h"
 
+#include "peer_answer.h"
 #include "peer_line.h"
-#include "peer_result.h"
 
 /* "Order: job, kind, n, lo, hi, inv, steps, then n lines", and after n the pin. */
 enum { NUMBER, KIND, UNKNOWNS, PIN, LOW_ENDS, HIGH_ENDS, INVERSE, STEPS, SYSTEM };

@@ -1,5 +1,5 @@
-/* A job's answer: the writer of a result text.
- * It stands in a header, as the step does, so that the compiler builds it into each entry, one of which is timed. */
+/* The writer of a result text.
+ * It stands in a header, as the step does, so that the compiler builds it into each entry, two of which are timed. */
 #ifndef PEER_RESULT_H
 #define PEER_RESULT_H
 
@@ -53,8 +53,9 @@ static size_t put_result(uint8_t *text, const struct job *job, const struct outc
 {
     uint8_t *p = PUT(text, "job=");
     p = put_number(p, job->number);
-    /* "0 for a job run alone" */
-    p = PUT(p, "\nvisit=0\nverdict=");
+    p = PUT(p, "\nvisit=");
+    p = put_number(p, o->visit);
+    p = PUT(p, "\nverdict=");
     p = put_verdict(p, o->verdict);
     p = PUT(p, "\nsteps=");
     p = put_number(p, o->steps);
@@ -69,19 +70,6 @@ static size_t put_result(uint8_t *text, const struct job *job, const struct outc
         *p++ = k + 1 < job->n ? ',' : '\n';
     }
     return (size_t)(p - text);
-}
-
-/* Runs a job and writes its result text. */
-static floodrafter_answer answer_job(struct job *job, uint8_t *out, size_t out_len)
-{
-    struct outcome o = run_job(job);
-    /* "A fault [..] writes nowhere": the length is known only when the text is written. */
-    uint8_t result[RESULT_MAX];
-    size_t len = put_result(result, job, &o);
-    if (out_len < len)
-        return (floodrafter_answer){.fault = FLOODRAFTER_SHORT_BUFFER};
-    memcpy(out, result, len);
-    return (floodrafter_answer){.fault = FLOODRAFTER_DONE, .len = len};
 }
 
 #endif

@@ -7,6 +7,7 @@
 #include "peer.h"
 #include "peer_parts.h"
 #include "requests.h"
+#include "rooms.h"
 
 /* The room behind the lent buffer shows a byte written too far. */
 enum { ROOM = 64, OLD_BYTE = 0xA5 };
@@ -217,13 +218,28 @@ static bool same_halving(const struct request *r)
     return same_halved(r->text.at, r->text.len, r->depth, r->room * FLOODRAFTER_LISTED);
 }
 
+/* A call on the table of rooms: both keep a table of their own from the first request to the last. */
+static bool same_room_request(const struct request *r)
+{
+    static struct room_state library, peer;
+    enum room_call call = room_call_of(r->word);
+    struct room_shown shown = {r->slot, r->visit, r->text.at, r->text.len, FLOODRAFTER_TEXT_MAX};
+    if (call == READING)
+        shown.out_len = r->room;
+    if (FLOODRAFTER_TEXT_MAX < shown.out_len) {
+        printf("reading: no buffer of %zu bytes is lent here\n", r->room);
+        return false;
+    }
+    return same_room(call, &shown, &library, &peer);
+}
+
 /* The text of any request is a job's, or gets a fault as one; the parts, the box, the image, the depth and the list
- * that stand in the line are held too. */
+ * that stand in the line are held too, and so are the calls on the table of rooms. */
 static bool same_request(const struct request *r)
 {
     if (strcmp(r->word, "decide") == 0)
         return same_decided(r->n, r->x, r->k);
-    if (!same_answers(r->text.at, r->text.len))
+    if (!same_answers(r->text.at, r->text.len) || (is_room_call(r) && !same_room_request(r)))
         return false;
     if (strcmp(r->word, "halve") == 0)
         return same_halving(r);

@@ -21,8 +21,7 @@ static check_entry *const check_entries[][SOLVERS] = {
 static solve_entry *const solve_entries[SOLVERS] = {floodrafter_solve, peer_solve};
 static halve_entry *const halve_entries[SOLVERS] = {floodrafter_halve, peer_halve};
 
-/* The thread's own processor time, which what else the machine does hardly moves. */
-static double now(void)
+double processor_seconds(void)
 {
     struct timespec t;
     clock_gettime(CLOCK_THREAD_CPUTIME_ID, &t);
@@ -38,7 +37,7 @@ size_t boxes_of(int solver, const struct text *text, int64_t depth)
 double seconds_of(int solver, enum entry entry, const struct text *text, long calls)
 {
     static uint8_t out[FLOODRAFTER_TEXT_MAX];
-    double start = now();
+    double start = processor_seconds();
     for (long k = 0; k < calls; k++) {
         if (entry == SOLVE)
             solve_entries[solver](text->bytes, text->len, out, sizeof out);
@@ -47,34 +46,51 @@ double seconds_of(int solver, enum entry entry, const struct text *text, long ca
         else
             check_entries[entry][solver](text->bytes, text->len);
     }
-    return now() - start;
+    return processor_seconds() - start;
 }
 
 /* How many calls fill a round. */
-static long calls_of(int solver, enum entry entry, const struct text *text)
+static long calls_of(timed *seconds, int solver, const void *work)
 {
     long calls = 1;
-    while (seconds_of(solver, entry, text, calls) < round_seconds / 2)
+    while (seconds(solver, work, calls) < round_seconds / 2)
         calls *= 2;
     return calls * 2;
 }
 
-struct times measure(enum entry entry, const struct text *text)
+struct times measure_work(timed *seconds, const void *work)
 {
     struct times best;
     long calls[SOLVERS];
     for (int solver = 0; solver < SOLVERS; solver++) {
-        calls[solver] = calls_of(solver, entry, text);
+        calls[solver] = calls_of(seconds, solver, work);
         best.of[solver] = 1e9;
     }
     for (int round = 0; round < ROUNDS; round++) {
         for (int solver = 0; solver < SOLVERS; solver++) {
-            double one = seconds_of(solver, entry, text, calls[solver]) / (double)calls[solver];
+            double one = seconds(solver, work, calls[solver]) / (double)calls[solver];
             if (one < best.of[solver])
                 best.of[solver] = one;
         }
     }
     return best;
+}
+
+struct text_work {
+    enum entry entry;
+    const struct text *text;
+};
+
+static double seconds_of_text(int solver, const void *work, long calls)
+{
+    const struct text_work *w = work;
+    return seconds_of(solver, w->entry, w->text, calls);
+}
+
+struct times measure(enum entry entry, const struct text *text)
+{
+    struct text_work work = {entry, text};
+    return measure_work(seconds_of_text, &work);
 }
 
 double ratio(struct times t)

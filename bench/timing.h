@@ -15,9 +15,17 @@ struct times {
     double of[SOLVERS];
 };
 
+/* The thread's own processor time, which what else the machine does hardly moves. */
+double processor_seconds(void);
+
 double seconds_of(int solver, enum entry entry, const struct text *text, long calls);
 
+/* Seconds of so many calls of a solver on some work. */
+typedef double timed(int solver, const void *work, long calls);
+
 /* The solvers take turns, so that what slows the machine for a while slows both. */
+struct times measure_work(timed *seconds, const void *work);
+
 struct times measure(enum entry entry, const struct text *text);
 
 /* The time of the library over the time of the peer. */

@@ -1,12 +1,13 @@
 /* Floodrafter for C: job texts answered, at once or in the parts that they arrive in, their steps shown one by one, all their closing positions listed, job
- * and result texts checked, explained and written again.
+ * and result texts checked, explained and written again, and the jobs of eight rooms kept in one table and moved step by step.
  *
  * Link with target/staticlib/libfloodrafter_c.a (x86-64), which `rt staticlib floodrafter_c` proves and writes. docs/C.md has an example.
  *
  * Every function takes any bytes, lengths and numbers. It keeps no state, allocates nothing and calls nothing but memcpy and memset, so that threads may call it
- * as they like; what is known of a text that arrives in parts, the caller carries from call to call.
- * What it needs of its caller: a pointer that is not null, also where its length is 0, with at least that many bytes (of `list`: numbers) behind it, and `out` and
- * `list` apart from `text`. */
+ * as they like, but for those that share a table of rooms: calls on one table come one after another. What is known of a text that arrives in parts, and the
+ * table, the caller carries from call to call.
+ * What it needs of its caller: a pointer that is not null, also where its length is 0, with at least that many bytes (of `list`: numbers) behind it, `out` and
+ * `list` apart from `text`, and a table apart from both. */
 #ifndef FLOODRAFTER_H
 #define FLOODRAFTER_H
 
@@ -38,6 +39,18 @@ extern "C" {
 /* The numbers of a listed box, whatever n is: 1 for unique or 0 for open, FLOODRAFTER_N low ends, FLOODRAFTER_N high ends. */
 #define FLOODRAFTER_LISTED (1 + 2 * FLOODRAFTER_N)
 
+/* The rooms of a table: slots are counted from 0 on. */
+#define FLOODRAFTER_ROOMS 8
+
+/* The bytes of a table of rooms. */
+#define FLOODRAFTER_TABLE 18436
+
+/* The last visit number that a table hands out; the first is 1. */
+#define FLOODRAFTER_VISIT_MAX 999999999
+
+/* A buffer of this size is enough for every reading. */
+#define FLOODRAFTER_READING_MAX 252
+
 /* The faults of documents 01 and 02. */
 enum floodrafter_fault {
     FLOODRAFTER_DONE = 0,
@@ -49,13 +62,17 @@ enum floodrafter_fault {
     FLOODRAFTER_TERMS = 6,        /* an eq line has over 16 terms, a zero coefficient, a degree over 3 or the wrong order */
     FLOODRAFTER_SHORT_BUFFER = 7, /* the answer is longer than `out`, or `list` is too short for the depth */
     FLOODRAFTER_STEPS = 8,        /* steps is not 0 to 1,000; with line 0, a depth is not 0 to FLOODRAFTER_DEPTH_MAX */
-    FLOODRAFTER_PIN = 9           /* a pin line of an eigen job says n, or a number that is not 1 to n */
+    FLOODRAFTER_PIN = 9,          /* a pin line of an eigen job says n, or a number that is not 1 to n */
+    FLOODRAFTER_FULL = 13,        /* all slots of the table are taken */
+    FLOODRAFTER_VISITS = 14,      /* the table has handed out visit FLOODRAFTER_VISIT_MAX */
+    FLOODRAFTER_NOT_OPEN = 15,    /* the slot does not hold the visit: it is not one of the table, free, or holds another */
+    FLOODRAFTER_TABLE_BROKEN = 16 /* the table has fewer than FLOODRAFTER_TABLE bytes or, clearing apart, not the form of docs/ROOMS.md */
 };
 
 /* What became of a text. */
 typedef struct floodrafter_answer {
     uint64_t fault; /* an enum floodrafter_fault */
-    uint64_t line;  /* the line of the fault, counted from 1; 0 for faults 1 and 7, for fault 4 of a state handed in, and where there is none */
+    uint64_t line;  /* the line of the fault, counted from 1; 0 for faults 1, 7 and 13 to 16, for fault 4 of a state handed in, and where there is none */
     size_t len;     /* how many bytes were written from the start of `out` on; 0 beside a fault */
 } floodrafter_answer;
 
@@ -167,7 +184,7 @@ typedef struct floodrafter_row {
 
 /* What the lines so far say, in numbers alone. What no line has said yet, and places past n, are zero. */
 typedef struct floodrafter_read {
-    uint64_t fault;  /* that of the first bad line, an enum floodrafter_fault, 0 where there is none: at most 9, the last of them */
+    uint64_t fault;  /* that of the first bad line, an enum floodrafter_fault, 0 where there is none: at most 9, the last that a text has */
     uint64_t line;   /* the first bad line, counted from 1, 0 where there is none: at most 9 + FLOODRAFTER_N */
     uint64_t next;   /* the next line: job 1, kind 2, n 3, pin (or lo in its place) 4, lo 5, hi 6, inv 7, steps 8, and from 9 on those of the system;
                       * 0 where no line is left: at most 8 + FLOODRAFTER_N */
@@ -217,6 +234,48 @@ floodrafter_answer floodrafter_end_job(floodrafter_parts parts, uint8_t *out, si
 
 /* The text has ended: its job is answered by the result text in `out`, as floodrafter_solve does with the whole text. Faults and `out` as above. */
 floodrafter_answer floodrafter_end_solve(floodrafter_parts parts, uint8_t *out, size_t out_len);
+
+/* Eight rooms: a table holds a job and its reading for each room, one visit to a room. floodrafter_room_clear makes lent bytes a table without visits;
+ * floodrafter_room_open begins a visit and hands out a slot and a visit number; whoever shows these two moves the visit's job by one step at a time, reads
+ * where it stands, and closes it. A slot is used again and a visit number, up to the next clearing, is not, so that a holder who comes late is refused.
+ * A reading is a result text with the visit's number. A visit that is not decided yet reads as spent, with its steps and its box so far. It is finished when
+ * it is decided or its steps are the job's allowance: then, in a table that these calls alone have changed since its clearing, it reads as the result of
+ * floodrafter_solve but for the visit's number.
+ *
+ * The table is the caller's: FLOODRAFTER_TABLE bytes without pointers, which can be copied, kept and sent. docs/ROOMS.md has their form; every call that is
+ * not refused by 16 leaves it whole. What stands behind them is no part of it, and no call changes it. `table`, `text` and `out` do not overlap.
+ * A fault changes no byte of the table and writes nowhere. Its line is 0 but for the faults of the job text. */
+
+/* What became of an opening: who holds the visit shows `slot` and `visit` from now on. */
+typedef struct floodrafter_opened {
+    uint64_t fault; /* an enum floodrafter_fault */
+    uint64_t line;  /* the line of the fault, counted from 1; 0 for faults 1, 13, 14 and 16, and where there is none */
+    uint64_t slot;  /* 0 to FLOODRAFTER_ROOMS - 1; 0 beside a fault, where it says nothing */
+    uint64_t visit; /* 1 to FLOODRAFTER_VISIT_MAX; 0 beside a fault */
+} floodrafter_opened;
+
+/* All rooms are free, visits count from 1 again, and all bytes of the table are zero; `len` is 0. Any bytes can be made a table.
+ * Faults: 16, for fewer than FLOODRAFTER_TABLE bytes. */
+floodrafter_answer floodrafter_room_clear(uint8_t *table, size_t table_len);
+
+/* A visit with the job text `text` begins in the lowest free slot. Its number is one more than the last.
+ * Faults, in this order: 16; 1 to 6, 8 and 9 of the job text; 13; 14. */
+floodrafter_opened floodrafter_room_open(uint8_t *table, size_t table_len, const uint8_t *text, size_t text_len);
+
+/* Does one step of the visit's job and writes the reading after it into `out`; on a finished visit, the reading alone, and the table stays as it is.
+ * Faults, in this order: 16; 15; 7 where the reading after the step is longer than `out`. The bytes of `out` beyond the reading are the old ones. */
+floodrafter_answer floodrafter_room_step(uint8_t *table, size_t table_len, uint64_t slot, uint64_t visit, uint8_t *out, size_t out_len);
+
+/* Writes the visit's reading into `out`. Faults, in this order: 16; 15; 7. The bytes of `out` beyond the reading are the old ones. */
+floodrafter_answer floodrafter_room_reading(const uint8_t *table, size_t table_len, uint64_t slot, uint64_t visit, uint8_t *out, size_t out_len);
+
+/* The visit ends and its slot is free; `len` is 0. Faults, in this order: 16; 15. */
+floodrafter_answer floodrafter_room_close(uint8_t *table, size_t table_len, uint64_t slot, uint64_t visit);
+
+/* Writes into `out` a plain sentence for whoever showed a slot and a visit, or opened a room: what fault 7, 13, 14, 15 or 16 of these calls says.
+ * Returns the sentence's length, and 0 for every other number: a fault of the job text has its sentence from floodrafter_explain_job. Length, bytes and
+ * `out` are as there. */
+size_t floodrafter_room_explain(uint64_t fault, uint8_t *out, size_t out_len);
 
 #ifdef __cplusplus
 }

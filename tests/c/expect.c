@@ -25,12 +25,27 @@ bool same(struct bytes b, const void *at, size_t len)
     return b.len == len && memcmp(b.at, at, len) == 0;
 }
 
-bool is_old(const uint8_t *from, size_t len)
+static bool are_all(const uint8_t *from, size_t len, uint8_t least, uint8_t most)
 {
     for (size_t i = 0; i < len; i++)
-        if (from[i] != OLD)
+        if (from[i] < least || most < from[i])
             return false;
     return true;
+}
+
+bool is_old(const uint8_t *from, size_t len)
+{
+    return are_all(from, len, OLD, OLD);
+}
+
+bool is_zero(const uint8_t *from, size_t len)
+{
+    return are_all(from, len, 0, 0);
+}
+
+bool is_plain(const uint8_t *from, size_t len)
+{
+    return are_all(from, len, ' ', '~');
 }
 
 void expect_told(const struct asked *r, uint64_t fault, uint64_t line)

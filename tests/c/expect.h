@@ -23,6 +23,11 @@ enum { ROOM = 2 * FLOODRAFTER_TEXT_MAX, OLD = 0xA5 };
 
 bool is_old(const uint8_t *from, size_t len);
 
+bool is_zero(const uint8_t *from, size_t len);
+
+/* Plain text, as a sentence is, without a line feed. */
+bool is_plain(const uint8_t *from, size_t len);
+
 /* The answer expected is this fault: the program tells it in two lines. */
 void expect_told(const struct asked *r, uint64_t fault, uint64_t line);
 

@@ -4,7 +4,7 @@
 #include <stdlib.h>
 #include <string.h>
 
-static void broken(const char *what)
+_Noreturn void broken(const char *what)
 {
     fprintf(stderr, "the cases are broken: %s\n", what);
     exit(2);
@@ -25,7 +25,7 @@ struct bytes whole_file(const char *path)
     return (struct bytes){at, (size_t)len};
 }
 
-static struct bytes cut(struct bytes *from, size_t len)
+struct bytes cut(struct bytes *from, size_t len)
 {
     struct bytes piece = {from->at, len};
     if (len > from->len)
@@ -35,7 +35,7 @@ static struct bytes cut(struct bytes *from, size_t len)
     return piece;
 }
 
-static const char *cut_line(struct bytes *from)
+const char *cut_line(struct bytes *from)
 {
     const uint8_t *end = memchr(from->at, '\n', from->len);
     if (end == NULL)
@@ -43,12 +43,14 @@ static const char *cut_line(struct bytes *from)
     return (const char *)cut(from, (size_t)(end - from->at) + 1).at;
 }
 
-/* How many words the sorts of lines have: with a box and with a depth as many, and the operation tells which. */
+/* How many words the sorts of lines have; where two have as many, the operation tells which. */
 enum {
     BARE = 2,
     WITH_LENGTHS = 3,
     WITH_BOX = 4,
     WITH_DEPTH = 4,
+    WITH_VISIT = 4,
+    WITH_VISIT_AND_ROOM = 5,
     WITH_BOX_AND_IMAGE = 7,
     WORDS_MAX = WITH_BOX_AND_IMAGE
 };
@@ -120,6 +122,21 @@ static floodrafter_box read_box(const char *lo, const char *hi)
     return b;
 }
 
+bool is_room_call(const struct request *r)
+{
+    static const char *const words[] = {"clear", "open", "step", "reading", "close"};
+    for (size_t k = 0; k < sizeof words / sizeof words[0]; k++)
+        if (strcmp(r->word, words[k]) == 0)
+            return true;
+    return false;
+}
+
+static void read_visit(const struct words *w, struct request *r)
+{
+    r->slot = read_count(w->at[1]);
+    r->visit = read_count(w->at[2]);
+}
+
 /* What stands between the operation, which is known, and the length. */
 static void read_arguments(const struct words *w, struct request *r)
 {
@@ -128,6 +145,11 @@ static void read_arguments(const struct words *w, struct request *r)
         r->n = read_count(w->at[1]);
         r->x = read_box(w->at[2], w->at[3]);
         r->k = read_box(w->at[4], w->at[5]);
+    } else if (w->count == WITH_VISIT_AND_ROOM) {
+        read_visit(w, r);
+        r->room = read_count(w->at[3]);
+    } else if (w->count == WITH_VISIT && is_room_call(r)) {
+        read_visit(w, r);
     } else if (w->count == WITH_DEPTH && strcmp(r->word, "halve") == 0) {
         r->depth = read_number(w->at[1]);
         r->room = read_count(w->at[2]);

@@ -1,9 +1,12 @@
-/* The C library on every request of the program's cases: test REQUESTS ANSWERS. Each answer is held to the one of the second program, and each lent
- * buffer to what the header says of it. */
+/* The C library on every request of the program's cases, and on calls on tables of any bytes: test REQUESTS ANSWERS CALLS LEFT. Each answer is held to the
+ * one of the second program, and each lent buffer to what the header says of it. */
 #include "lists.h"
 #include "parts.h"
+#include "rooms.h"
 #include "states.h"
 #include "steps.h"
+#include "tables.h"
+#include "visits.h"
 
 #include <stdio.h>
 #include <string.h>
@@ -40,14 +43,6 @@ static void expect_text(const struct asked *r, writer *write, floodrafter_answer
     expect(memcmp(out, exact, sizeof exact) == 0, r, "a buffer of the text's own length");
     expect_short(r, write, a.len - 1);
     expect_short(r, write, 0);
-}
-
-static bool is_plain(const uint8_t *from, size_t len)
-{
-    for (size_t i = 0; i < len; i++)
-        if (from[i] < ' ' || from[i] > '~')
-            return false;
-    return true;
 }
 
 /* A sentence exactly beside a fault, of the same length in any buffer; of a short one only the room is written. */
@@ -88,10 +83,13 @@ static void ask_by_word(const struct asked *r)
         ask_start(r);
         ask_walk(r);
         ask_in_parts(r);
+        ask_opened(r);
+        ask_visit(r);
     } else if (strcmp(word, "job") == 0) {
         ask(r, floodrafter_rewrite_job, floodrafter_check_job, floodrafter_explain_job);
         ask_start(r);
         ask_in_parts(r);
+        ask_opened(r);
     } else if (strcmp(word, "parts") == 0) {
         ask(r, floodrafter_rewrite_job, floodrafter_check_job, floodrafter_explain_job);
         ask_parts(r);
@@ -105,6 +103,8 @@ static void ask_by_word(const struct asked *r)
     } else if (strcmp(word, "halve") == 0) {
         ask_start(r);
         ask_halve(r);
+    } else if (is_room_call(&r->request)) {
+        ask_room(r);
     } else {
         expect(false, r, "no such request");
     }
@@ -134,12 +134,13 @@ static void expect_limits(void)
     expect_step_limits(&limit);
     expect_list_limits(&limit);
     expect_states(&limit);
+    expect_room_limits(&limit);
 }
 
 int main(int argc, char **argv)
 {
-    if (argc != 3) {
-        fprintf(stderr, "usage: test REQUESTS ANSWERS\n");
+    if (argc != 5) {
+        fprintf(stderr, "usage: test REQUESTS ANSWERS CALLS LEFT\n");
         return 2;
     }
     struct bytes requests = whole_file(argv[1]), answers = whole_file(argv[2]);
@@ -150,6 +151,7 @@ int main(int argc, char **argv)
         ask_by_word(&r);
         r.before++;
     }
-    printf("C library: %lu requests, %lu failures\n", r.before, failures());
-    return failures() != 0 || r.before == 0 || answers.len != 0;
+    unsigned long calls = ask_tables(whole_file(argv[3]), whole_file(argv[4]));
+    printf("C library: %lu requests, %lu calls on tables, %lu failures\n", r.before, calls, failures());
+    return failures() != 0 || r.before == 0 || answers.len != 0 || calls == 0;
 }

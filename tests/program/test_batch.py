@@ -9,8 +9,9 @@ from calls import (EXAMPLES, IMAGE, JOB, MAX_HEADER, MAX_TEXT, RESULT, call, pac
 SOLVE = request("solve", JOB)
 SOLVED = packet(RESULT)
 FAULT_1 = packet(b"fault=1\nline=0\n")
-BAD_LINE = (b"error=expected a line of solve, job, result, parts L1,L2,.., image, image LO HI, decide N LO HI KLO KHI "
-            b"or halve DEPTH ROOM, and a length in digits (decide: 0), one space between words\n")
+BAD_LINE = (b"error=expected a line of solve, job, result, parts L1,L2,.., image, image LO HI, decide N LO HI KLO KHI, "
+            b"halve DEPTH ROOM, clear, open, step SLOT VISIT, reading SLOT VISIT ROOM or close SLOT VISIT, "
+            b"and a length in digits (decide, clear, step, reading, close: 0), one space between words\n")
 BAD_TEXT = b"error=expected as many bytes of text as the length says\n"
 
 TWO = (EXAMPLES / "hinge-near.txt").read_bytes()             # a job of two unknowns
@@ -61,11 +62,97 @@ NO_LISTS = ["", ",", "0,", ",0", "0,,0", "0,0,0,0,0,0,0", "00", "01", "-", "-0",
             "0\t", "1000000000000000000", "-1000000000000000000", "0,1000000000000000000"]
 NO_STEPS = ["image", "image ", "image -1", "image 00", "image x", "Image 0", "image\t0", "image 0\r", "image  0",
             "image 0 0", "image 0 0 ", "image 0 0  0", "image 0 0 0 ", "image 0 0 0 0", "image 0 0 0 0 0",
-            "image 0 0 -1", "image 0 0 00", "image 0 0 x", "step 0", "step 0 0 0",
+            "image 0 0 -1", "image 0 0 00", "image 0 0 x",
             "decide", "decide 0", "decide 1 0 0 0 0", "decide 1 0 0 0 0 ", "decide 1 0 0 0 0 0 ", "decide 1 0 0 0 0 1",
             "decide 1 0 0 0 0 00", "decide 1 0 0 0 0 x", "decide 1 0 0 0 0 0 0", "decide 01 0 0 0 0 0",
             "decide -1 0 0 0 0 0", "decide +1 0 0 0 0 0", "decide x 0 0 0 0 0", "decide 1,1 0 0 0 0 0",
             "decide  1 0 0 0 0 0", "decide 1  0 0 0 0 0", "Decide 1 0 0 0 0 0"]
+
+BEGUN = b"job=41\nvisit=%d\nverdict=spent\nsteps=0\nlo=65536\nhi=131072\n"
+DONE = RESULT.replace(b"visit=0", b"visit=%d")
+NOT_OPEN = b"fault=15\nline=0\n"
+SHORT = b"fault=7\nline=0\n"
+
+# two holders and those who come late; the words of each request, its text and its answer
+HISTORY = [
+    ("reading 0 1 4096", b"", NOT_OPEN), ("step 0 0", b"", NOT_OPEN), ("close 0 0", b"", NOT_OPEN),
+    ("open", FAULTY, b"fault=8\nline=7\n"), ("open", b"x" * 70_000, b"fault=1\nline=0\n"),
+    ("open", JOB, b"slot=0\nvisit=1\n"), ("open", JOB, b"slot=1\nvisit=2\n"),
+    ("step 0 2", b"", NOT_OPEN), ("step 1 1", b"", NOT_OPEN), ("step 8 1", b"", NOT_OPEN),
+    ("step 1 2", b"", DONE % 2), ("reading 0 1 4096", b"", BEGUN % 1), ("step 1 2", b"", DONE % 2),
+    ("reading 1 2 57", b"", DONE % 2), ("reading 1 2 56", b"", SHORT), ("reading 1 2 0", b"", SHORT),
+    ("reading 0 1 56", b"", BEGUN % 1), ("reading 0 1 55", b"", SHORT), ("reading 0 2 0", b"", NOT_OPEN),
+    ("close 0 2", b"", NOT_OPEN), ("close 0 1", b"", b""), ("close 0 1", b"", NOT_OPEN),
+    ("open", TWO, b"slot=0\nvisit=3\n"), ("step 0 1", b"", NOT_OPEN), ("reading 1 2 4096", b"", DONE % 2),
+    ("clear", b"", b""), ("step 0 3", b"", NOT_OPEN), ("reading 1 2 4096", b"", NOT_OPEN),
+    ("open", JOB, b"slot=0\nvisit=1\n"), ("reading 0 1 4096", b"", BEGUN % 1), ("step 0 1", b"", DONE % 1),
+]
+
+NO_CALLS = ["clear", "clear ", "clear 1", "clear 00", "clear x", "clear 0 0", "clear  0", "Clear 0", "clear 0\r",
+            "open", "open ", "open -1", "open 00", "open 0 0", "open x",
+            "step", "step 0", "step 0 0", "step 0 1 1", "step 0 1 00", "step 0 1 ", "step 0 1 0 0", "step 0  1 0",
+            "step  0 1 0", "step 00 1 0", "step 0 01 0", "step -1 1 0", "step 0 -1 0", "step x 1 0", "step 0 x 0",
+            "step 0,1 1 0", "step\t0 1 0", "Step 0 1 0", "steps 0 1 0",
+            "reading 0 1 0", "reading 0 1 2 1", "reading 0 1 2 0 0", "reading 0 1 4097 0", "reading 0 1 01 0",
+            "reading 0 1 -1 0", "reading 0 1 x 0", "reading 0 1  0", "reading 0 1 18446744073709551616 0",
+            "close 0", "close 0 1", "close 0 1 1", "close 0 1 4096 0", "close 0 x 0", "close 0 1 00"]
+
+
+class Rooms(unittest.TestCase):
+    """The table of rooms, which a run keeps."""
+
+    def test_history(self):
+        """Alone, and with other requests between the calls."""
+        for between, answer in ((b"", b""), (SOLVE, SOLVED)):
+            given = b"".join(request(words, text) + between for words, text, _ in HISTORY)
+            answers = b"".join(packet(told) + answer for _, _, told in HISTORY)
+            self.assertEqual(call("batch", given=given), (0, answers, ""))
+
+    def test_eight_holders(self):
+        """In turns: each has its own result in the end, and a ninth has no room."""
+        jobs = [path for path in sorted(EXAMPLES.glob("*.txt")) if b"steps=8\n" in path.read_bytes()][:8]
+        given, answers = [], []
+        for slot, path in enumerate(jobs):
+            given.append(request("open", path.read_bytes()))
+            answers.append(packet(b"slot=%d\nvisit=%d\n" % (slot, slot + 1)))
+        given.append(request("open", JOB))
+        answers.append(packet(b"fault=13\nline=0\n"))
+        steps = b"".join(request(f"step {slot} {slot + 1}") for slot in range(8))
+        readings = b"".join(request(f"reading {slot} {slot + 1} 4096") for slot in range(8))
+        ended = call("batch", given=b"".join(given) + steps * 8 + readings)
+        results = b"".join(packet(path.with_suffix(".out").read_bytes().replace(b"visit=0", b"visit=%d" % (slot + 1)))
+                           for slot, path in enumerate(jobs))
+        self.assertEqual((ended.status, ended.err), (0, ""))
+        self.assertTrue(ended.out.startswith(b"".join(answers)))
+        self.assertTrue(ended.out.endswith(results * 2))
+
+    def test_beyond_64_bits(self):
+        opening, answer = request("open", JOB), packet(b"slot=0\nvisit=1\n")
+        for far in (2 ** 64 - 1, 2 ** 64, 2 ** 64 + 1, 2 ** 128, int("9" * 4_000)):
+            given = opening + b"".join(request(words) for words in (f"step {far} 1", f"step 0 {far}",
+                                                                    f"reading 0 {far} 9", f"close {far} 1"))
+            self.assertEqual(call("batch", given=given), (0, answer + packet(NOT_OPEN) * 4, ""))
+
+    def test_one_run_one_table(self):
+        """Whoever waits for each answer finds the table as it was; the next run has one of its own."""
+        for _ in range(2):
+            run = start("batch")
+            for words, text, told in HISTORY[:7]:
+                run.stdin.write(request(words, text))
+                run.stdin.flush()
+                self.assertEqual(run.stdout.read(len(packet(told))), packet(told))
+            self.assertEqual(run.communicate(request("step 1 2")), (packet(DONE % 2), b""))
+            self.assertEqual(run.returncode, 0)
+
+    def test_lines(self):
+        for line in NO_CALLS:
+            with self.subTest(line=line):
+                given = request("open", JOB) + line.encode() + b"\n" + SOLVE
+                self.assertEqual(call("batch", given=given), (2, packet(b"slot=0\nvisit=1\n") + BAD_LINE, ""))
+
+    def test_texts(self):
+        for broken in (b"open 79\n" + JOB[:-1], b"open 1\n", b"open 70000\n" + b"x" * 69_999):
+            self.assertEqual(call("batch", given=request("clear") + broken), (2, packet(b"") + BAD_TEXT, ""))
 
 
 class Answers(unittest.TestCase):

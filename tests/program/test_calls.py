@@ -96,7 +96,8 @@ class Commands(unittest.TestCase):
     def test_help_on_batch(self):
         page = call("help", "batch")
         self.assertEqual((page.status, page.err), (0, ""))
-        for fact in (b"LENGTH", b"image LO HI", b"decide N LO HI KLO KHI", b"halve DEPTH ROOM", b"4096", b"error="):
+        for fact in (b"LENGTH", b"image LO HI", b"decide N LO HI KLO KHI", b"halve DEPTH ROOM",
+                     b"reading SLOT VISIT ROOM", b"4096", b"error="):
             self.assertIn(fact, page.out)
 
 

@@ -1,39 +1,29 @@
 """Cases from a seed: requests (words, text) with the expected answers.
 
 About half are right texts; the others are damaged ones.  The fixed cases come
-first: the documents' examples and the places their readers get wrong.
+first: the documents' examples and the places their readers get wrong.  Last come those of
+P12's table, which depend on each other.
 """
 
 import itertools
+from collections import Counter
 
-from answers import answer
+from answers import Desk, answer
 from arithmetic import (ALONE, Job, KINDS, MARK, MAX_END, MAX_ENTRY, MAX_N, MAX_TERMS,
                         MAX_VISIT, Result, VERDICTS, ends_of)
 from damage import at_limits, damaged, every_spelling, lines_of
 from dice import Dice
+from examples import EXAMPLES, JOB_41, T11, T12
 from halve_cases import fixed_halvings, random_halving
 from jobs import (allowance, job_number, largest_job, monomials, random_job,
                   symmetric_job, zero_job)
 from part_cases import fixed_parts, random_part
 from pin_cases import fixed_pins, random_pin
+from room_cases import room_cases
 from size_cases import fixed_sizes
 from step_cases import fixed_steps, random_step
 from texts import job_text, result_text
 from visit_cases import fixed_visits
-
-JOB_41 = Job(41, "poly", 1, [65_536], [131_072], [21_845], 8,
-             [[(65_536, (2,)), (-131_072, (0,))]])
-T7 = Job(7, "poly", 1, [0], [2], [65_536], 8, [[(65_536, (1,))]])
-T9 = Job(9, "poly", 1, [0], [0], [65_536], 8, [[(65_536, (1,)), (-65_536, (0,))]])
-T11 = Job(11, "linear", 2, [-65_536] * 2, [65_536] * 2, [32_768, 0, 0, 16_384], 8,
-          [[131_072, 0, 65_536], [0, 262_144, 65_536]])
-T12 = Job(12, "eigen", 2, [65_535, 131_071], [65_537, 131_073],
-          [-65_536, 65_536, 0, -65_536], 8, [[65_536, 65_536], [0, 131_072]], 2)
-# x x x + x = 1/2 between -1 and 1: the slope 3 x x + 1 is 1 to 4
-CUBE = Job(5, "poly", 1, [-65_536], [65_536], [26_214], 8,
-           [[(65_536, (3,)), (65_536, (1,)), (-32_768, (0,))]])
-EXAMPLES = [JOB_41, T7, T7._replace(steps=1), T9, JOB_41._replace(inv=[0]), T11, T12,
-            JOB_41._replace(steps=0), CUBE]
 
 
 def equation_texts():
@@ -154,23 +144,31 @@ def cases(seed, count):
     yield from itertools.islice(itertools.chain(fixed(), others), count)
 
 
-def write_case(request, text, requests, answers):
+def write_case(request, text, requests, answers, answering=answer):
     """Writes a request and the expected answer to two binary files, and returns the
     answer's lines."""
-    reply = answer(request, text)
+    reply = answering(request, text)
     requests.write(b"%s %d\n" % (request.encode(), len(text)) + text)
     answers.write(b"%d\n" % len(reply) + reply)
     return reply.decode("ascii").split("\n")
 
 
+def kind_of(request, lines):
+    """What an answer is called: its fault, or the operation and, where there is one, the
+    verdict."""
+    if lines[0].startswith("fault"):
+        return lines[0]
+    said = next((line for line in lines if line.startswith("verdict=")), "right")
+    return f"{request.split(' ')[0]} {said}"
+
+
 def write_cases(seed, count, requests, answers):
     """Writes the batch input and the expected output, and returns how often each kind
-    of answer came."""
-    mix = {}
-    for request, text in cases(seed, count):
-        lines = write_case(request, text, requests, answers)
-        operation = request.split(" ")[0]
-        said = {"solve": lines[2], "decide": lines[0]}.get(operation, "right")
-        kind = lines[0] if lines[0].startswith("fault") else f"{operation} {said}"
-        mix[kind] = mix.get(kind, 0) + 1
+    of answer came.  Behind the count comes the block of the table, with a random request
+    for every eight of the count."""
+    desk, mix = Desk(), Counter()
+    block = room_cases(seed, count // 8)
+    for request, text in itertools.chain(cases(seed, count), block):
+        lines = write_case(request, text, requests, answers, desk.answer)
+        mix[kind_of(request, lines)] += 1
     return mix

@@ -1,6 +1,6 @@
 """What must hold of every accepted job, tried on random fraction points, of every text
 that arrives in parts, of every list of a job that is halved, of every text beside what it was
-before P10, and of every result text of before P12.
+before P10, of every result text of before P12, and of P12's table of rooms.
 
     claims.py [--seed S] [--count K]
 
@@ -31,6 +31,7 @@ before P10, and of every result text of before P12.
   listed as unique holds at most one, all lie in the starting box, and there are at most two
   to the power of the depth.
 - Old texts (document 02, P10 and P12): see old_claims.py and visit_claims.py.
+- Rooms (document 02, P12): see room_claims.py.
 """
 
 import argparse
@@ -46,6 +47,7 @@ from jobs import pinned_job, random_job, symmetric_job
 from old_claims import try_old
 from part_cases import random_lengths, random_text
 from parts import Reader, cut
+from room_claims import try_rooms
 from step_cases import against
 from steps import decision, image_of
 from texts import read_job, job_text
@@ -260,7 +262,8 @@ def main():
     parser.add_argument("--count", type=int, default=1_000)
     given = parser.parse_args()
     tried = (try_claims(given.seed, given.count) + try_halvings(given.seed, given.count)
-             + try_old(given.seed, given.count) + try_visits(given.seed, given.count))
+             + try_old(given.seed, given.count) + try_visits(given.seed, given.count)
+             + try_rooms(given.seed, given.count))
     for name, times in sorted(tried.items()):
         print(f"{times:7} {name}")
     print("no breach")

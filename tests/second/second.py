@@ -1,4 +1,5 @@
-"""The second program: answers as the product does, from documents 01 and 02 alone.
+"""The second program: answers as the product does, from documents 01 and 02 alone, and for the
+bytes of P12's table from docs/ROOMS.md.
 
     second.py solve [FILE]     the result text of a job text
     second.py job [FILE]       reads a job text and writes it again
@@ -9,6 +10,9 @@
                                all closing positions of a job: the boxes that are listed
     second.py batch [FILE]     many requests in one run
     second.py cases --seed S --count K --requests R --answers A
+                               requests of the batch, and the answers to them
+    second.py tables --seed S --count K --requests R --answers A
+                               calls on tables of any bytes, and what they leave
 
 Without FILE, standard input is read.  A fault is answered by the two lines
 `fault=N` and `line=L`.
@@ -18,28 +22,35 @@ import argparse
 import re
 import sys
 
-from answers import HEADER, answer
+from answers import HEADER, Desk, answer
 from arithmetic import MAX_BOXES, MAX_N, MAX_TEXT
 from cases import write_cases
+from tables import write_tables
 
 COMMANDS = ("solve", "job", "result", "image", "step")
+MAKERS = {"cases": write_cases, "tables": write_tables}
 CHUNK = 65_536
 
 # A number in a request: an optional minus, 1 to 18 digits, no leading zero, no minus
-# zero.  A list has 1 to 6 of them, whatever n is.  N, LENGTH and the lengths of parts have
-# any count of digits; ROOM is at most as many boxes as are ever listed.
+# zero.  A list has 1 to 6 of them, whatever n is.  N, LENGTH, the lengths of parts, SLOT and
+# VISIT have any count of digits.
 NUMBER = "(?:0|-?[1-9][0-9]{0,17})"
 LIST = f"{NUMBER}(?:,{NUMBER}){{0,{MAX_N - 1}}}"
 COUNT = "(?:0|[1-9][0-9]*)"
 PARTS = f"parts {COUNT}(?:,{COUNT})*"
-ROOM = "(?:" + "|".join(map(str, range(MAX_BOXES + 1))) + ")"
-HALVE = f"halve {NUMBER} {ROOM}"
-LINE = re.compile(f"(?:(?:solve|job|result|{PARTS}|image(?: {LIST} {LIST})?|{HALVE}) {COUNT}"
-                  f"|decide {COUNT}(?: {LIST}){{4}} 0)\n")
+HALVE = f"halve {NUMBER} (?P<boxes>{COUNT})"
+WITH_TEXT = f"solve|job|result|{PARTS}|image(?: {LIST} {LIST})?|{HALVE}|open"
+DECIDE = f"decide {COUNT}(?: {LIST}){{4}}"
+VISIT = f"{COUNT} {COUNT}"
+WITHOUT = f"{DECIDE}|clear|step {VISIT}|reading {VISIT} (?P<bytes>{COUNT})|close {VISIT}"
+LINE = re.compile(f"(?:(?:{WITH_TEXT}) {COUNT}|(?:{WITHOUT}) 0)\n")
+# ROOM is at most as many boxes as are ever listed, or bytes as a text ever has.
+MOST = {"boxes": MAX_BOXES, "bytes": MAX_TEXT}
 
 EXPECTED_LINE = ("a line of solve, job, result, parts L1,L2,.., image, image LO HI, "
-                 "decide N LO HI KLO KHI or halve DEPTH ROOM, and a length in digits "
-                 "(decide: 0), one space between words")
+                 "decide N LO HI KLO KHI, halve DEPTH ROOM, clear, open, step SLOT VISIT, "
+                 "reading SLOT VISIT ROOM or close SLOT VISIT, and a length in digits "
+                 "(decide, clear, step, reading, close: 0), one space between words")
 EXPECTED_TEXT = "as many bytes of text as the length says"
 
 
@@ -56,15 +67,22 @@ def take(source, length):
     return kept
 
 
+def is_request(line):
+    """Whether a line is one of a request, its ROOM at most what it may be."""
+    match = LINE.fullmatch(line)
+    return bool(match) and all(int(match[name] or 0) <= most for name, most in MOST.items())
+
+
 def batch(source, sink):
     """A request is a line `OP ARGS.. LENGTH` and LF, then LENGTH bytes; its answer is
     a line with the answer's length and LF, then the answer's bytes.  Broken framing
     ends the run with a line `error=` and what was expected."""
+    desk = Desk()
     while True:
         header = source.readline(HEADER).decode("latin-1")
         if not header:
             return
-        if not LINE.fullmatch(header):
+        if not is_request(header):
             sink.write(f"error=expected {EXPECTED_LINE}\n".encode())
             return
         request, _, length = header[:-1].rpartition(" ")
@@ -72,7 +90,7 @@ def batch(source, sink):
         if text is None:
             sink.write(f"error=expected {EXPECTED_TEXT}\n".encode())
             return
-        reply = answer(request, text)
+        reply = desk.answer(request, text)
         sink.write(b"%d\n" % len(reply) + reply)
 
 
@@ -85,22 +103,23 @@ def depth(spelled):
 
 def main(arguments=None):
     """The command line."""
-    parser = argparse.ArgumentParser(description=__doc__.split("\n", maxsplit=1)[0])
+    parser = argparse.ArgumentParser(description=__doc__.split("\n\n", maxsplit=1)[0])
     commands = parser.add_subparsers(dest="command", required=True)
     for name in (*COMMANDS, "halve", "batch"):
         command = commands.add_parser(name)
         if name == "halve":
             command.add_argument("depth", type=depth, metavar="DEPTH")
         command.add_argument("file", nargs="?", metavar="FILE")
-    making = commands.add_parser("cases")
-    making.add_argument("--seed", type=int, required=True)
-    making.add_argument("--count", type=int, required=True)
-    making.add_argument("--requests", required=True)
-    making.add_argument("--answers", required=True)
+    for name in MAKERS:
+        making = commands.add_parser(name)
+        making.add_argument("--seed", type=int, required=True)
+        making.add_argument("--count", type=int, required=True)
+        making.add_argument("--requests", required=True)
+        making.add_argument("--answers", required=True)
     given = parser.parse_args(arguments)
-    if given.command == "cases":
+    if given.command in MAKERS:
         with open(given.requests, "wb") as requests, open(given.answers, "wb") as answers:
-            mix = write_cases(given.seed, given.count, requests, answers)
+            mix = MAKERS[given.command](given.seed, given.count, requests, answers)
         for kind in sorted(mix):
             print(f"{mix[kind]:7} {kind}")
         return

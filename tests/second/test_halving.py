@@ -6,9 +6,9 @@ from collections import Counter
 import halving
 from arithmetic import KINDS, MARK, MAX_BOXES, MAX_DEPTH, MAX_N, equations_of
 from breach import inside, told
-from cases import JOB_41, T7, T9, T11
 from claims import values_at
 from dice import Dice
+from examples import JOB_41, T7, T9, T11
 from halve_cases import TWO, WIDE, fixed_halvings, still
 from halve_claims import try_halvings
 from halving import halve
@@ -146,8 +146,9 @@ BROKEN_LINES = [
     "Halve 0 1 0", " halve 0 1 0", "halve0 1 0", "halves 0 1 0", "job 0 1 0",
     *(f"halve {depth} 1 0" for depth in DEPTHS), *(f"halve 0 {room} 0" for room in ROOMS)]
 BAD_LINE = (b"error=expected a line of solve, job, result, parts L1,L2,.., image, image LO HI, "
-            b"decide N LO HI KLO KHI or halve DEPTH ROOM, and a length in digits (decide: 0), "
-            b"one space between words\n")
+            b"decide N LO HI KLO KHI, halve DEPTH ROOM, clear, open, step SLOT VISIT, "
+            b"reading SLOT VISIT ROOM or close SLOT VISIT, and a length in digits "
+            b"(decide, clear, step, reading, close: 0), one space between words\n")
 
 
 class Requests(unittest.TestCase):

@@ -9,7 +9,7 @@ import walks
 from answers import HEADER, answer
 from arithmetic import KINDS, MAX_N, MAX_TEXT
 from breach import Breach, told
-from cases import JOB_41, cases
+from cases import cases
 from claims import try_parts
 from dice import Dice
 from part_cases import PINNED, fixed_parts
@@ -36,7 +36,7 @@ class Reading(unittest.TestCase):
 
     def test_every_cut(self):
         """In three parts, of which some are empty, and in single bytes."""
-        for text, wanted in ((TEXT_41, JOB_41), (PINNED, read_job(PINNED)),
+        for text, wanted in ((TEXT_41, read_job(TEXT_41)), (PINNED, read_job(PINNED)),
                              (TEXT_41[:-1], (2, 8)), (TEXT_41 + b"x", (2, 9))):
             for one in range(len(text) + 1):
                 for other in range(len(text) + 1 - one):

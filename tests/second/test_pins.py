@@ -8,9 +8,10 @@ import walks
 from answers import answer
 from arithmetic import (MARK, MAX_N, MAX_TEXT, equation_over, equations_of, rows_of, slope,
                         trace, unit)
-from cases import T11, T12, cases
+from cases import cases
 from damage import damaged, lines_of, replaced, whole
 from dice import Dice
+from examples import T11, T12
 from jobs import PINNED, largest_job, random_job, zero_job
 from pin_cases import FLAT, FLAT_LINES, ONES, PIN_AT
 from test_second import TWO, Told

@@ -5,7 +5,7 @@ import unittest
 import arithmetic
 from answers import answer
 from arithmetic import MAX_N, MAX_TEXT, Result, equation_over, equations_of
-from cases import CUBE, EXAMPLES, JOB_41, T7, T9, T11, T12
+from examples import CUBE, EXAMPLES, JOB_41, T7, T9, T11, T12
 from jobs import largest_job
 from texts import (job_text, read_job, read_result, result_text, solve, write_job,
                    write_result)

@@ -8,7 +8,7 @@ import steps
 from answers import answer
 from arithmetic import MAX_END, MAX_IMAGE, MAX_N
 from breach import told
-from cases import JOB_41, T7, T9, T11
+from examples import JOB_41, T7, T9, T11
 from jobs import largest_job
 from second import EXPECTED_LINE
 from steps import decision, image_of, live_box
@@ -116,7 +116,7 @@ BROKEN_LISTS = ["", ",", "0,", ",0", "0,,0", "0,0,0,0,0,0,0", "00", "01", "-", "
 BROKEN_LINES = [
     "image", "image ", "image -1", "image 00", "image x", "Image 0", "image\t0", "image 0 0",
     "image 0 0 0 0", "image 0 0 0 0 0", "image  0", "image 0 0  0", "image 0 0 0 ",
-    "image 0 0 ", "image 0 0 -1", "image 0 0 00", "image 0 0 x", "step 0", "step 0 0 0",
+    "image 0 0 ", "image 0 0 -1", "image 0 0 00", "image 0 0 x", "step 0",
     "decide", "decide 0", "decide 1 0 0 0 0", "decide 1 0 0 0 0 0 0", "decide 1 0 0 0 0 1",
     "decide 1 0 0 0 0 00", "decide 1 0 0 0 0 ", "decide 1 0 0 0 0 0 ", "decide 01 0 0 0 0 0",
     "decide -1 0 0 0 0 0", "decide +1 0 0 0 0 0", "decide x 0 0 0 0 0", "decide 1,1 0 0 0 0 0",

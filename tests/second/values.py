@@ -9,7 +9,7 @@ it"; here only live places are kept.
 
 from arithmetic import (MAX_END, MAX_ENTRY, MAX_JOB, MAX_N, MAX_STEPS, MAX_TERMS, MAX_VISIT, Job,
                         Result)
-from cases import T11, T12
+from examples import T11, T12
 from texts import solve, write_job, write_result
 from walks import Fault
 

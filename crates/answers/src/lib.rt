@@ -1,4 +1,5 @@
 // What a request is answered with, and how an answer is put: a line with its length, then its bytes.
+mod calls;
 mod parts;
 
 ghost use mathlib.Core.Path.{_≡_};
@@ -20,6 +21,7 @@ use arguments::box_of;
 use arguments::deep_of;
 use arguments::told_of;
 use arguments::words::first_word;
+pub use calls::reply_call;
 use faults::Fault;
 use faults::Status;
 use faults::Written;

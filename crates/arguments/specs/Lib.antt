@@ -5,3 +5,4 @@ pub mod Lists
 pub mod Boxes
 pub mod Lengths
 pub mod Depths
+pub mod Visits

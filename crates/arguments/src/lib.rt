@@ -1,9 +1,10 @@
-// The numbers that a request's line carries: counts, lengths, lists of long numbers, boxes, depths.
+// The numbers that a request's line carries: counts, lengths, lists of long numbers, boxes, depths, visits.
 pub mod boxes;
 pub mod counts;
 pub mod depths;
 pub mod lengths;
 pub mod longs;
+pub mod visits;
 pub mod words;
 
 pub use boxes::Boxed;
@@ -18,3 +19,6 @@ pub use lengths::are_lengths;
 pub use longs::Places;
 pub use longs::list_of;
 pub use longs::long_number;
+pub use visits::Shown;
+pub use visits::read_of;
+pub use visits::shown_of;

@@ -1,8 +1,8 @@
 -- A number and a text come back from the bytes that they were put into.
 use Prim.Native.Nat.{ℕ, _+_, _*_, _/_, _%_, _≤_, _<_}
 use native.Mathlib.Omega.{arith}
-use mathlib.Core.Path.{_≡_, refl, sym, ap, _∙_}
-use mathlib.Core.List.{List, [], _∷_, _++_}
+use mathlib.Core.Path.{_≡_, sym, ap, _∙_}
+use mathlib.Core.List.{List, [], _++_}
 use lib.ListN.{length, getD, length-append, length-replicate, getD-replicate}
 use lib.Seq.{sets, length-sets}
 use Rattle.lists.proofs.Sets.{sets-append}

@@ -1,11 +1,11 @@
 -- A part of some bytes, after others were set.
 use Prim.Native.Nat.{ℕ, suc, _+_, _-_, _≤_, _<_}
 use native.Mathlib.Omega.{arith}
-use mathlib.Core.Path.{_≡_, refl, sym, ap, _∙_}
+use mathlib.Core.Path.{_≡_, refl, ap, _∙_}
 use mathlib.Core.List.{List, [], _∷_, _++_, append-assoc}
 use lib.ListN.{length, take, drop, set, getD}
 use lib.Seq.{sets, sets-eq, length-take-le, drop-at, take-append-seam, take-set-le, take-set-lt, drop-set-lt}
-use lib.Seq.{drop-set-add, getD-take, getD-drop, take-take, drop-drop}
+use lib.Seq.{drop-set-add, getD-take, getD-drop}
 use Rattle.cells.specs.Cells.{part}
 
 -- what was set there

@@ -1,5 +1,5 @@
 -- The same of batch: what is asked, what of it is at hand, what it is answered with and how that is told, with
--- every byte of the lent buffer.
+-- every byte of the lent buffer and of the table of rooms.
 use mathlib.Core.Path.{_≡_, sym, _∙_}
 use denote.Ref.{now}
 use denote.Triple.Clauses.{AtExit}
@@ -13,6 +13,8 @@ use Rattle.requests.proofs.packets.look.Reads as look
 use Rattle.requests.proofs.packets.look.Kinds as look-kinds
 use Rattle.answers.proofs.reply.Reads as reply
 use Rattle.answers.proofs.reply.Kinds as reply-kinds
+use Rattle.answers.proofs.reply_call.Reads as reply-call
+use Rattle.answers.proofs.reply_call.Kinds as reply-call-kinds
 use Rattle.answers.proofs.tell.Reads as tell
 use Rattle.answers.proofs.tell.Kinds as tell-kinds
 
@@ -29,6 +31,14 @@ pub reply-settled : (κs : Lfts 3) (a : Dens κs reply-kinds.ps) (r r' : resT re
     (s s' : AtExit (endedOf 3 reply-kinds.ps reply-kinds.r) κs)
     → reply.Post κs a r s → reply.Post κs a r' s' → (r ≡ r') × (now (s .1 .1 .1 .0) ≡ now (s' .1 .1 .1 .0))
 reply-settled κs a r r' s s' p q = settled p q
+
+pub reply-call-settled : (κs : Lfts 4) (a : Dens κs reply-call-kinds.ps) (r r' : resT reply-call-kinds.r κs .Denot)
+    (s s' : AtExit (endedOf 4 reply-call-kinds.ps reply-call-kinds.r) κs)
+    → reply-call.Post κs a r s → reply-call.Post κs a r' s'
+    → (r ≡ r') × ((now (s .1 .1 .1 .1 .0) ≡ now (s' .1 .1 .1 .1 .0)) × (now (s .1 .0) ≡ now (s' .1 .0)))
+reply-call-settled κs a r r' s s' p q =
+    let written = settled (p .0) (q .0) in
+    (written .0, (written .1, p .1 ∙ sym (q .1)))
 
 pub tell-settled : (κs : Lfts 1) (a : Dens κs tell-kinds.ps) (r r' : resT tell-kinds.r κs .Denot)
     (s s' : AtExit (endedOf 1 tell-kinds.ps tell-kinds.r) κs)

@@ -17,3 +17,4 @@ pub mod UnitsSettled
 pub mod StepSettled
 pub mod PartsSettled
 pub mod HalvingSettled
+pub mod RoomsSettled

@@ -46,9 +46,15 @@ fn requests(fd: i32) -> bool {
         \x20   image LO HI               K of a job text and this box\n\
         \x20   decide N LO HI KLO KHI    what a box of N unknowns and its image decide; LENGTH is 0\n\
         \x20   halve DEPTH ROOM          all closing positions of a job text, in a list of ROOM boxes, at most 256\n\
+        And of a table of eight rooms, all free at the start of the run; LENGTH is 0 but for open:\n\
+        \x20   clear                     all rooms are free, and visits count from 1 again\n\
+        \x20   open                      a job text takes the lowest free slot: slot=, visit=\n\
+        \x20   step SLOT VISIT           one step of the visit's job, and the reading after it\n\
+        \x20   reading SLOT VISIT ROOM   the reading, if ROOM bytes hold it; at most 4096\n\
+        \x20   close SLOT VISIT          the slot is free\n\
         LO, HI, KLO and KHI are lists joined by commas, of numbers in marks of up to 18 digits; a missing\n\
-        place is 0. LENGTH, N and L1,L2,.. are in digits with no leading zero. Bytes of a line, its line\n\
-        feed among them, at most: ",
+        place is 0. LENGTH, N, L1,L2,.., SLOT, VISIT and ROOM are in digits with no leading zero. Bytes of\n\
+        a line, its line feed among them, at most: ",
     )
 }
 

@@ -1,3 +1,4 @@
 pub mod Steps
 pub mod Parts
 pub mod Lists
+pub mod Screens

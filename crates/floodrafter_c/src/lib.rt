@@ -1,6 +1,7 @@
 // For C: a text is a pointer and a length, an answer three numbers. `include/floodrafter.h` is the other side.
 pub mod lists;
 pub mod parts;
+pub mod screens;
 pub mod steps;
 
 ghost use mathlib.Core.Path.{_≡_};

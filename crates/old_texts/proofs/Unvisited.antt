@@ -2,7 +2,6 @@
 use Prim.Native.Nat.{ℕ}
 use native.Mathlib.Omega.{arith}
 use mathlib.Core.Path.{_≡_, refl, sym, ap, _∙_}
-use mathlib.Core.Bool.{false, _&&_}
 use mathlib.Core.List.{List, [], _∷_, foldl}
 use lib.ListN.{length}
 use lib.Dec.{eqb}
@@ -20,7 +19,7 @@ use Rattle.jobs.specs.declared.Result.{Result}
 use Rattle.jobs.specs.declared.ResultLine.{ResultLine}
 use Rattle.jobs.specs.declared.Verdict.{Verdict}
 use Rattle.reading.specs.Got.{Got, after}
-use Rattle.reading.specs.Lines.{State, Answer, Next, heard, step, begin, ended, read}
+use Rattle.reading.specs.Lines.{State, Answer, heard, step, begin, ended, read}
 use Rattle.reading.specs.NumberLines.{counted, countLine}
 use Rattle.reading.proofs.Decided.{stays-bad}
 use Rattle.reading.proofs.Goes.{and-false, read-long}

@@ -10,7 +10,7 @@ use Rattle.arguments.specs.Counts.{countBy}
 use Rattle.arguments.specs.declared.counts.Counted.{Counted}
 use Rattle.requests.specs.declared.Named.{Named}
 use Rattle.requests.specs.declared.Request.{Request}
-use Rattle.requests.specs.Requests.{operationOf, takesText, asked, afterSpace, split, requestOf}
+use Rattle.requests.specs.Requests.{operationOf, takesText, callTakes, asked, afterSpace, split, requestOf}
 use Rattle.requests.specs.Packets.{wordsOf}
 
 words-asked : (name : Named) (n : Counted) (words : ℕ) → wordsOf (asked name n words) ≤ words
@@ -23,6 +23,12 @@ words-asked (Named.Is op) (Counted.Is n) words = by (takesText op n)
 words-asked (Named.Is op) Counted.Bad words = omega arith
 words-asked Named.Lists (Counted.Is n) words = omega arith
 words-asked Named.Lists Counted.Bad words = omega arith
+words-asked (Named.Calls call) (Counted.Is n) words = by (callTakes call n)
+  where
+    by : (t : Bool) → wordsOf (cond t (Request.Call call n words) Request.Bad) ≤ words
+    by true = omega arith
+    by false = omega arith
+words-asked (Named.Calls call) Counted.Bad words = omega arith
 words-asked Named.Unknown n words = omega arith
 
 words-split : (at : ℕ) (l : List ℕ) → at ≤ length l → wordsOf (split at l) ≤ length l

@@ -37,6 +37,7 @@ unfoldable pub textAt : Request → ℕ → ℕ → Packet
 textAt Request.Bad from n = without Seen.Bad
 textAt (Request.Ask op length words) from n = textOf (Seen.Ask op) length words from n
 textAt (Request.List length words) from n = textOf Seen.List length words from n
+textAt (Request.Call call length words) from n = textOf (Seen.Call call) length words from n
 
 unfoldable pub lookAt : ℕ → List ℕ → Packet
 lookAt end have =
@@ -52,6 +53,7 @@ lookOf have = lookAt (placeOf lineFeed have) have
 abbrev pub wordsOf : Request → ℕ
 wordsOf (Request.Ask op length words) = words
 wordsOf (Request.List length words) = words
+wordsOf (Request.Call call length words) = words
 wordsOf Request.Bad = 0
 
 -- a packet of n bytes at hand, and that its words and behind them its text are among them

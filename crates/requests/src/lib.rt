@@ -4,13 +4,15 @@ pub mod packets;
 
 ghost use mathlib.Core.Path.{_≡_};
 ghost use Rattle.requests.specs.declared.Named.{Named};
-ghost use Rattle.requests.specs.Requests.{plainOf, namedIf, arguedOf, operationOf};
-ghost use Rattle.requests.specs.Requests.{takesText, asked, AfterSpace, requestOf};
+ghost use Rattle.requests.specs.Requests.{plainCall, plainOf, namedIf, arguedCall, arguedOf, operationOf};
+ghost use Rattle.requests.specs.Requests.{takesText, callTakes, asked, AfterSpace, requestOf};
 use arguments::Counted;
 use arguments::are_lengths;
 use arguments::box_of;
 use arguments::count_of;
 use arguments::deep_of;
+use arguments::read_of;
+use arguments::shown_of;
 use arguments::told_of;
 use arguments::words::first_word;
 use text::same_bytes;
@@ -25,10 +27,20 @@ pub enum Op {
     Decide,
 }
 
+// What is asked of the table of rooms.
+pub enum Call {
+    Clear,
+    Open,
+    Step,
+    Reading,
+    Close,
+}
+
 // `halve` lists boxes, which no answer of the others is long enough for.
 pub enum Named {
     Is(Op),
     Lists,
+    Calls(Call),
     Unknown,
 }
 
@@ -36,7 +48,20 @@ pub enum Named {
 pub enum Request {
     Ask(Op, u64, usize),
     List(u64, usize),
+    Call(Call, u64, usize),
     Bad,
+}
+
+fn plain_call(words: &[u8]) -> Named
+    ensures { λ r. ⌜ r ≡ plainCall (now (words .entry)) ⌝ }
+{
+    if same_bytes(words, b"clear") {
+        return Named::Calls(Call::Clear);
+    }
+    if same_bytes(words, b"open") {
+        return Named::Calls(Call::Open);
+    }
+    Named::Unknown
 }
 
 // The operations without arguments.
@@ -55,7 +80,7 @@ fn plain(words: &[u8]) -> Named
     if same_bytes(words, b"image") {
         return Named::Is(Op::Image);
     }
-    Named::Unknown
+    plain_call(words)
 }
 
 fn named_if(good: bool, name: Named) -> Named
@@ -63,6 +88,24 @@ fn named_if(good: bool, name: Named) -> Named
 {
     if good {
         return name;
+    }
+    Named::Unknown
+}
+
+fn argued_call(first: &[u8], rest: &[u8]) -> Named
+    ensures { λ r. ⌜ r ≡ arguedCall (now (first .entry)) (now (rest .entry)) ⌝ }
+{
+    if same_bytes(first, b"step") {
+        let shown = shown_of(rest);
+        return named_if(shown.good, Named::Calls(Call::Step));
+    }
+    if same_bytes(first, b"reading") {
+        let shown = read_of(rest);
+        return named_if(shown.good, Named::Calls(Call::Reading));
+    }
+    if same_bytes(first, b"close") {
+        let shown = shown_of(rest);
+        return named_if(shown.good, Named::Calls(Call::Close));
     }
     Named::Unknown
 }
@@ -86,7 +129,7 @@ fn argued(first: &[u8], rest: &[u8]) -> Named
         let deep = deep_of(rest);
         return named_if(deep.good, Named::Lists);
     }
-    Named::Unknown
+    argued_call(first, rest)
 }
 
 // The one table of the operations.
@@ -97,6 +140,7 @@ pub fn operation(words: &[u8]) -> Named
     match name {
         Named::Is(op) => Named::Is(op),
         Named::Lists => Named::Lists,
+        Named::Calls(call) => Named::Calls(call),
         Named::Unknown => {
             let word = first_word(words);
             let end = word.end;
@@ -149,6 +193,33 @@ fn sized(op: Op, length: Counted, words: usize) -> Request
     }
 }
 
+// Of the calls on the table, `open` alone has a text.
+fn takes_call(call: Call, length: u64) -> bool
+    ensures { λ r. ⌜ r ≡ callTakes call length ⌝ }
+{
+    match call {
+        Call::Clear => length == 0,
+        Call::Open => true,
+        Call::Step => length == 0,
+        Call::Reading => length == 0,
+        Call::Close => length == 0,
+    }
+}
+
+fn sized_call(call: Call, length: Counted, words: usize) -> Request
+    ensures { λ r. ⌜ r ≡ asked (Named.Calls call) length words ⌝ }
+{
+    match length {
+        Counted::Is(n) => {
+            if takes_call(call, n) {
+                return Request::Call(call, n, words);
+            }
+            Request::Bad
+        }
+        Counted::Bad => Request::Bad,
+    }
+}
+
 fn sized_list(length: Counted, words: usize) -> Request
     ensures { λ r. ⌜ r ≡ asked Named.Lists length words ⌝ }
 {
@@ -164,6 +235,7 @@ fn made(name: Named, length: Counted, words: usize) -> Request
     match name {
         Named::Is(op) => sized(op, length, words),
         Named::Lists => sized_list(length, words),
+        Named::Calls(call) => sized_call(call, length, words),
         Named::Unknown => Request::Bad,
     }
 }

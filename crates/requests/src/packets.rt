@@ -4,6 +4,7 @@ ghost use Prim.Native.Nat.{_≤_};
 ghost use lib.ListN.{length};
 ghost use Rattle.requests.specs.Packets.{headerMax, keptOf, passedOf, without, textOf, textAt, wordsOf, lookOf};
 ghost use Rattle.requests.specs.Packets.{Inside};
+use crate::Call;
 use crate::Op;
 use crate::Request;
 use crate::request_of;
@@ -17,6 +18,7 @@ pub enum Seen {
     Bad,
     Ask(Op),
     List,
+    Call(Call),
 }
 
 // The first `words` bytes at hand say what is asked, what is kept of the text stands from..to; behind it `passed` bytes
@@ -86,6 +88,7 @@ fn text_at(request: Request, from: usize, n: usize) -> Packet
         Request::Bad => nothing(Seen::Bad),
         Request::Ask(op, length, words) => text_of(Seen::Ask(op), length, words, from, n),
         Request::List(length, words) => text_of(Seen::List, length, words, from, n),
+        Request::Call(call, length, words) => text_of(Seen::Call(call), length, words, from, n),
     }
 }
 

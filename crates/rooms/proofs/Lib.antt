@@ -6,13 +6,3 @@ pub mod PutReading
 pub mod Visited
 pub mod Opening
 pub mod Stepping
-pub mod Kept
-pub mod Free
-pub mod After
-pub mod Formed
-pub mod Isolated
-pub mod Histories
-pub mod Stale
-pub mod Own
-pub mod Refusals
-pub mod RequestP12

@@ -1,8 +1,8 @@
 -- Opening, by what its tests find.
-use Prim.Native.Nat.{ℕ, _+_, _≤_, _<_}
+use Prim.Native.Nat.{ℕ, _≤_, _<_}
 use native.Mathlib.Omega.{arith}
-use mathlib.Core.Path.{_≡_, refl, sym, ap, _∙_}
-use mathlib.Core.Bool.{Bool, true, false, cond, true≢false}
+use mathlib.Core.Path.{_≡_, refl, sym, ap}
+use mathlib.Core.Bool.{true, false, true≢false}
 use mathlib.Core.List.{List}
 use lib.ListN.{length}
 use borrow.Author.Tests.{lt-ltb, le-ltb}
@@ -11,17 +11,13 @@ use Rattle.faults.specs.declared.Fault.{Fault}
 use Rattle.faults.specs.declared.Status.{Status}
 use Rattle.faults.specs.Checks.{isBad, badUnless, onLine, andThen}
 use Rattle.faults.proofs.Laws.{not-bad, bad-first}
-use Rattle.checks.specs.Checks.{checkJob}
-use Rattle.checks.specs.CheckResult.{checkResult}
 use Rattle.checks.proofs.AcceptedLaws.{check-done}
-use Rattle.jobs.specs.declared.Job.{Job}
 use Rattle.job_form.specs.JobForm.{readJob}
-use Rattle.job_form.specs.JobBytes.{jobBytes}
 use Rattle.job_form.proofs.Answers.{read-checked, read-same}
 use Rattle.job_form.proofs.Short.{job-width}
 use Rattle.rooms.specs.declared.Opened.{Opened}
 use Rattle.rooms.specs.Table.{roomsMax, jobMost, lastIn, whole}
-use Rattle.rooms.specs.Calls.{lowestFree, nextVisit, openStatus, openAnswer, opened, withVisitor}
+use Rattle.rooms.specs.Calls.{lowestFree, nextVisit, openStatus, openAnswer, opened}
 
 module _ (t text : List ℕ) where
   pub no-table : whole t ≡ false → openStatus t text ≡ Status.Refused Fault.Table 0

@@ -1,7 +1,7 @@
 -- A reading that a writer puts into its place in the table.
 use Prim.Native.Nat.{ℕ, _+_, _-_, _≤_}
 use native.Mathlib.Omega.{arith}
-use mathlib.Core.Path.{_≡_, refl, sym, ap, ap₂, _∙_, subst}
+use mathlib.Core.Path.{_≡_, ap, ap₂, _∙_, subst}
 use mathlib.Core.Bool.{false}
 use mathlib.Core.List.{List, _++_}
 use lib.ListN.{length, take, drop, length-drop}
@@ -16,7 +16,7 @@ use Rattle.checks.proofs.CheckResultLaws.{sound}
 use Rattle.jobs.specs.declared.Result.{Result}
 use Rattle.result_form.specs.ResultShows.{showResult}
 use Rattle.result_form.proofs.Trips.{result-width}
-use Rattle.cells.specs.Cells.{part, numberBytes, cell}
+use Rattle.cells.specs.Cells.{numberBytes, cell}
 use Rattle.cells.proofs.Writing.{put-in-part, length-put}
 use Rattle.rooms.specs.Table.{readingMost}
 use Rattle.rooms.proofs.Written.{done-told, all-there}

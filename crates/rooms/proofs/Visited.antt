@@ -1,14 +1,13 @@
 -- A slot that holds a visit: what is known of its two texts.
 use Prim.Native.Nat.{ℕ, _≤_, _<_}
-use native.Mathlib.Omega.{arith}
-use mathlib.Core.Path.{_≡_, refl, sym, ap, _∙_}
+use mathlib.Core.Path.{_≡_, refl, sym, ap}
 use mathlib.Core.Bool.{Bool, true, false, cond, _&&_, true≢false}
 use mathlib.Core.List.{List}
 use lib.Dec.{eqb, leb, ltb}
 use borrow.Author.Tests.{eqb-true, eqb-false, eq-eqb, ne-eqb, leb-true, le-leb, ltb-true}
 use Rattle.faults.specs.declared.Fault.{Fault}
 use Rattle.faults.specs.declared.Status.{Status}
-use Rattle.faults.specs.Checks.{isBad, badUnless, onLine, andThen}
+use Rattle.faults.specs.Checks.{isBad}
 use Rattle.faults.proofs.Laws.{not-bad, unless-fine, fine-line, done-first, done-next}
 use Rattle.jobs.specs.declared.Job.{Job}
 use Rattle.jobs.specs.declared.Result.{Result}
@@ -21,7 +20,6 @@ use Rattle.result_form.specs.ResultShows.{showResult, live}
 use Rattle.result_form.proofs.Answers as result
 use Rattle.cells.specs.Cells.{numberAt, textAt}
 use Rattle.visits.specs.Visits.{Stands}
-use Rattle.rooms.specs.declared.Standing.{Standing}
 use Rattle.rooms.specs.declared.Room.{Room}
 use Rattle.rooms.specs.Table.{roomsMax, readingFrom, readingMost, jobFrom, jobMost, freeRoom, brokenRoom}
 use Rattle.rooms.specs.Table.{takenRoom, isVisit, heldBy, roomOf, lastIn, slotIn, roomAt, whole}

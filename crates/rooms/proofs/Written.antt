@@ -1,13 +1,10 @@
 -- What a writer answers: of right values, where it has room and where it has not; and where it is refused.
-use Prim.Native.Nat.{ℕ, _≤_, _<_}
-use native.Mathlib.Omega.{arith}
+use Prim.Native.Nat.{ℕ}
 use mathlib.Core.Path.{_≡_, refl, sym, ap, ap₂, _∙_}
 use mathlib.Core.Bool.{Bool, true, false, cond, true≢false}
 use mathlib.Core.List.{List, _++_}
-use lib.ListN.{length, take, drop, length-append}
-use lib.Seq.{take-append-seam}
+use lib.ListN.{length, drop}
 use lib.Dec.{ltb}
-use borrow.Author.Tests.{le-ltb}
 use Rattle.faults.specs.declared.Fault.{Fault}
 use Rattle.faults.specs.declared.Status.{Status}
 use Rattle.faults.specs.declared.Written.{Written}
@@ -34,12 +31,6 @@ module _ {t old new : List ℕ} {a : Written} (w : Leaves Status.Done t old new 
     pub all-there : new ≡ t ++ drop (length t) old
     unfolding leftIn
     all-there = rw few at (w .left)
-
-    pub text-taken : take (length t) new ≡ t
-    text-taken = ap (take (length t)) all-there ∙ take-append-seam t (drop (length t) old)
-
-    pub inside : length t ≤ length new
-    inside = rw (all-there, length-append t (drop (length t) old)) (omega arith)
 
 -- what a test says of a status
 pub bad-told : {st found : Status} {b v : Bool} → found ≡ st → b ≡ isBad found → b ≡ v → isBad st ≡ v

@@ -9,7 +9,6 @@ use Rattle.sizes.specs.Sizes.{visitMax}
 use Rattle.faults.specs.declared.Fault.{Fault}
 use Rattle.faults.specs.declared.Status.{Status}
 use Rattle.faults.specs.Checks.{isBad, badUnless, onLine, andThen}
-use Rattle.jobs.specs.declared.Job.{Job}
 use Rattle.jobs.specs.declared.Result.{Result}
 use Rattle.job_form.specs.JobForm.{readJob}
 use Rattle.result_form.specs.ResultShows.{showResult}

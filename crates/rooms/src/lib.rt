@@ -1,12 +1,7 @@
 // The table of eight rooms: its form over lent bytes, and the five calls.
-mod calls;
+pub mod calls;
 mod table;
 
-pub use calls::clear;
-pub use calls::close;
-pub use calls::open;
-pub use calls::reading;
-pub use calls::step;
 use faults::Status;
 use jobs::Job;
 use jobs::Result;

@@ -2,6 +2,8 @@
 use Prim.Native.Nat.{ℕ, _≤_}
 use mathlib.Core.Path.{_≡_}
 use mathlib.Core.List.{List, [], _++_}
+use mathlib.Core.Bool.{cond}
+use lib.Dec.{eqb}
 use lib.IntN.{ℤ}
 use Rattle.sizes.specs.Sizes.{nMax, termsMax, textMax, stepsMax, numberMax, visitMax, endMax, entryMax, degreeMax}
 use Rattle.faults.specs.declared.Finding.{Finding}
@@ -190,6 +192,15 @@ slipWords (Slip.Pin v slip) = pinnedWords v slip
 slipWords (Slip.Room slip) = roomWords slip
 
 -- the sentence of a slip that is the fault which the reader found stands from the start of the buffer on, as far as
+-- the sentence of a fault of the table, by its number: 7 is the only other one that a call on it has
+unfoldable pub tableWords : ℕ → List ℕ
+tableWords k =
+    cond (eqb k 7) (slipWords Slip.Short)
+    (cond (eqb k 13) (roomWords RoomSlip.Full)
+    (cond (eqb k 14) (roomWords RoomSlip.Visits)
+    (cond (eqb k 15) (roomWords RoomSlip.NotOpen)
+    (cond (eqb k 16) (roomWords RoomSlip.Table) []))))
+
 -- there is room, and every other byte is the old one; r is its length
 pub record Explains (found : Finding) (old new : List ℕ) (r : ℕ) : Type 0 where
   pub slip : Slip

@@ -25,7 +25,7 @@ ghost use Rattle.result_form.specs.ResultForm.{readResult};
 ghost use Rattle.slips.specs.declared.Slip.{Slip};
 ghost use Rattle.slips.specs.Slips.{foundIn};
 ghost use Rattle.phrases.specs.Says.{Says, sentenceMax};
-ghost use Rattle.sentences.specs.Sentences.{unknownsWords, pinnedWords, roomWords, slipWords, Explains};
+ghost use Rattle.sentences.specs.Sentences.{unknownsWords, pinnedWords, roomWords, slipWords, tableWords, Explains};
 
 // The longest sentence: a buffer of this size has room for any.
 pub const SENTENCE: usize = 256;
@@ -125,4 +125,18 @@ pub fn explain_result(text: &[u8], out: &mut [u8]) -> usize
         (now (out .entry)) (now (out .exit)) r ⌝ }
 {
     put_slip(out, result_slip(text))
+}
+
+// The sentence of a fault of the table, by its number, for any buffer: 7 and 13 to 16, and nothing for another.
+pub fn explain_table(fault: u64, out: &mut [u8]) -> usize
+    ensures { λ r. ⌜ Says sentenceMax (now (out .entry)) (now (out .exit)) 0 r (tableWords fault) ⌝ }
+{
+    match fault {
+        7 => put_short(out),
+        13 => put_room(out, RoomSlip::Full),
+        14 => put_room(out, RoomSlip::Visits),
+        15 => put_room(out, RoomSlip::NotOpen),
+        16 => put_room(out, RoomSlip::Table),
+        _ => 0,
+    }
 }

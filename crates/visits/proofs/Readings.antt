@@ -1,10 +1,9 @@
 -- The reading of a right visit is right, and a step leaves it so.
 use Prim.Native.Nat.{ℕ, _+_, _≤_, _<_}
 use native.Mathlib.Omega.{arith}
-use mathlib.Core.Path.{_≡_, refl, sym, ap, ap₂, _∙_, subst}
+use mathlib.Core.Path.{_≡_, refl, sym, ap₂, _∙_, subst}
 use mathlib.Core.Bool.{Bool, true, false, cond, true≢false}
 use mathlib.Core.List.{List}
-use lib.ListN.{getD}
 use lib.IntN.{ℤ, pos}
 use borrow.Author.Tests.{leb-false}
 use Rattle.sizes.specs.Sizes.{nMax, visitMax, stepsMax, endMax}
@@ -13,7 +12,6 @@ use Rattle.lists.proofs.Tab.{getD-tab, tab-cong}
 use Rattle.intervals.specs.declared.Interval.{Interval}
 use Rattle.intervals.specs.Places.{sideAt}
 use Rattle.faults.specs.declared.Status.{Status}
-use Rattle.jobs.specs.declared.Ends.{Ends}
 use Rattle.jobs.specs.declared.Job.{Job}
 use Rattle.jobs.specs.declared.Result.{Result}
 use Rattle.jobs.specs.declared.Verdict.{Verdict}

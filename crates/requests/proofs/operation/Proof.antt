@@ -20,7 +20,11 @@ returns-2 c = rw (← c .before .before .plain .ensures, c .enum-told .given .1)
 
 returns-3 : tie.Need-returns-3
 unfolding operationOf orNamed
-returns-3 c =
+returns-3 c = rw (← c .before .before .before .plain .ensures, c .before .name2 .given .1)
+
+returns-4 : tie.Need-returns-4
+unfolding operationOf orNamed
+returns-4 c =
     let word = c .before .before .before in
     let told = word .before in
     let words = told .before .before .before .before .args .words .now in
@@ -36,6 +40,6 @@ returns-3 c =
 pub operation-spec : {M : Type 1} → statement M
 operation-spec =
     tie.close
-    (tie.spec (λ c κs. search needs) (λ c. search needs) (λ c. search needs) (λ c. search needs) (λ c κs. search needs)
-    slice-aggregate-argued (λ c. search needs) (λ c. search needs) (λ c. search needs) (λ c κs. search needs) returns
-    returns-2 returns-3)
+    (tie.spec (λ c κs. search needs) (λ c. search needs) (λ c. search needs) (λ c. search needs) (λ c. search needs)
+    (λ c κs. search needs) slice-aggregate-argued (λ c. search needs) (λ c. search needs) (λ c. search needs)
+    (λ c κs. search needs) returns returns-2 returns-3 returns-4)

@@ -45,18 +45,21 @@ returns-4 c =
 returns-5 : tie.Need-returns-5
 unfolding plainOf
 returns-5 c =
-    let third = c .before .before .before in
+    let fourth = c .before in
+    let third = fourth .before .before .before in
     let second = third .before .before .before in
     let first = second .before .before .before in
     rw (
       sym (first .before .same-bytes .ensures) ∙ first .if1 .left,
       sym (second .before .same-bytes2 .ensures) ∙ second .if2 .left,
       sym (third .before .same-bytes3 .ensures) ∙ third .if3 .left,
-      sym (c .before .same-bytes4 .ensures) ∙ c .if4 .left,
+      sym (fourth .before .same-bytes4 .ensures) ∙ fourth .if4 .left,
     )
+    (c .plain-call .ensures)
 
 pub plain-spec : {M : Type 1} → statement M
 plain-spec =
     tie.close
     (tie.spec (λ c. search needs) (λ c κs. search needs) returns (λ c. search needs) (λ c κs. search needs) returns-2
-    (λ c. search needs) (λ c κs. search needs) returns-3 (λ c. search needs) (λ c κs. search needs) returns-4 returns-5)
+    (λ c. search needs) (λ c κs. search needs) returns-3 (λ c. search needs) (λ c κs. search needs) returns-4
+    (λ c κs. search needs) returns-5)

@@ -1,10 +1,8 @@
 -- `visits::first_reading` meets its contract.
-use mathlib.Core.Path.{ap, _∙_}
+use mathlib.Core.Path.{ap}
 use Rattle.jobs.specs.declared.Result.{Result}
 use Rattle.checks.proofs.AcceptedLaws.{check-done}
-use Rattle.run.specs.Job.{resultOf}
 use Rattle.result_form.specs.ResultForm.{withVisit}
-use borrow.Author.Needs.{needs}
 use Rattle.visits.proofs.first_reading.Statement.{statement}
 use Rattle.visits.proofs.first_reading.Tie as tie
 

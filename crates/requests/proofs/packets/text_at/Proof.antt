@@ -15,6 +15,11 @@ text-of-requires-2 c κs =
     let s = c .before .before .before in
     (s .pre .0, rw (c .before .request2 .given .1) at (s .pre .1))
 
+text-of-requires-3 : tie.Need-text-of-requires-3
+text-of-requires-3 c κs =
+    let s = c .before .before .before in
+    (s .pre .0, rw (c .before .request3 .given .1) at (s .pre .1))
+
 returns : tie.Need-returns
 unfolding textAt
 returns c = record {
@@ -32,8 +37,12 @@ returns-3 : tie.Need-returns-3
 unfolding textAt
 returns-3 c = rw (c .before .before .request2 .given .1) (c .text-of2 .ensures)
 
+returns-4 : tie.Need-returns-4
+unfolding textAt
+returns-4 c = rw (c .before .before .request3 .given .1) (c .text-of3 .ensures)
+
 pub text-at-spec : {M : Type 1} → statement M
 text-at-spec =
     tie.close
     (tie.spec (λ c. search needs) (λ c κs. search needs) (λ c. search needs) text-of-requires (λ c. search needs)
-    text-of-requires-2 returns returns-2 returns-3)
+    text-of-requires-2 (λ c. search needs) text-of-requires-3 returns returns-2 returns-3 returns-4)

@@ -7,7 +7,7 @@ use Rattle.job_form.specs.declared.JobRead.{JobRead}
 use Rattle.job_form.proofs.Answers.{read-checked}
 use Rattle.visits.proofs.Readings.{opened-right}
 use Rattle.rooms.specs.Calls.{openAnswer, opened}
-use Rattle.rooms.proofs.Whole.{whole-long, whole-last}
+use Rattle.rooms.proofs.Whole.{whole-long}
 use Rattle.rooms.proofs.Opening.{no-table, no-job, is-full, no-visit, is-opened, not-opened, job-short}
 use borrow.Author.Tests.{not-true, not-false}
 use borrow.Author.Needs.{needs}

@@ -1,5 +1,4 @@
 -- `rooms::calls::reading` meets its contract.
-use mathlib.Core.Path.{refl, sym, ap, _∙_}
 use Rattle.faults.proofs.Laws.{not-bad}
 use Rattle.rooms.specs.Calls.{heldStatus}
 use Rattle.rooms.proofs.Whole.{whole-long}

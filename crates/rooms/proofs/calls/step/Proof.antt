@@ -1,8 +1,7 @@
 -- `rooms::calls::step` meets its contract: 16, 15, then 7, and the reading in the table where it is not finished.
 use native.Mathlib.Omega.{arith}
-use mathlib.Core.Path.{refl, sym, ap, _∙_}
+use mathlib.Core.Path.{sym, ap, _∙_}
 use Rattle.visits.proofs.Readings.{next-stands}
-use Rattle.rooms.specs.declared.Room.{Room}
 use Rattle.rooms.specs.Calls.{finished}
 use Rattle.rooms.proofs.Whole.{whole-long}
 use Rattle.rooms.proofs.Written.{bad-told, all-refused}

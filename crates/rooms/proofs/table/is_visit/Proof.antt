@@ -2,7 +2,6 @@
 use mathlib.Core.Path.{refl}
 use borrow.Author.Tests.{eq-eqb, ne-eqb, le-leb, lt-leb}
 use Rattle.rooms.specs.Table.{isVisit}
-use borrow.Author.Needs.{needs}
 use Rattle.rooms.proofs.table.is_visit.Statement.{statement}
 use Rattle.rooms.proofs.table.is_visit.Tie as tie
 

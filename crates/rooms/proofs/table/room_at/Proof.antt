@@ -1,7 +1,5 @@
 -- `rooms::table::room_at` meets its contract.
-use native.Mathlib.Omega.{arith}
-use mathlib.Core.Path.{_∙_}
-use Rattle.rooms.specs.Table.{roomOf, slotFrom, slotSize}
+use Rattle.rooms.specs.Table.{slotFrom, slotSize}
 use Rattle.rooms.proofs.Slots.{cut-part}
 use borrow.Author.Needs.{needs}
 use Rattle.rooms.proofs.table.room_at.Statement.{statement}

@@ -1,9 +1,7 @@
 -- `rooms::table::room_of` meets its contract.
-use mathlib.Core.Path.{refl, sym, ap₂, _∙_}
+use mathlib.Core.Path.{refl, _∙_}
 use borrow.Author.Tests.{eq-eqb, ne-eqb, le-leb, lt-leb}
-use Rattle.job_form.specs.JobForm.{readJob}
-use Rattle.result_form.specs.ResultForm.{readResult}
-use Rattle.rooms.specs.Table.{heldBy, roomOf}
+use Rattle.rooms.specs.Table.{roomOf}
 use Rattle.rooms.proofs.Slots.{cut-told}
 use borrow.Author.Needs.{needs}
 use Rattle.rooms.proofs.table.room_of.Statement.{statement}

@@ -1,0 +1,10 @@
+pub mod Free
+pub mod Kept
+pub mod After
+pub mod Formed
+pub mod Isolated
+pub mod Histories
+pub mod Stale
+pub mod Own
+pub mod Refusals
+pub mod RequestP12
