@@ -18,7 +18,7 @@ use Rattle.job_form.specs.JobForm.{readJob}
 use Rattle.rooms.specs.Table.{slotFrom, roomAt}
 use Rattle.rooms.specs.Calls.{lowestFree, nextVisit, openStatus, opened, afterStep, finished, stepped}
 use Rattle.histories.specs.Histories.{Call, after, afterAll, Holds, shows, ownStep, ownSteps, Keeps, Stays}
-use Rattle.rooms.proofs.Whole.{and-fst, and-snd}
+use Rattle.term_checks.proofs.RangeLaws.{and-left, and-right}
 use Rattle.histories.proofs.Formed.{open-slot, opened-own, open-formed}
 use Rattle.histories.proofs.Isolated.{own-good, moved-on, stays-finished, open-kept, step-apart, close-apart}
 
@@ -49,8 +49,8 @@ module _ (t : List ℕ) (k v : ℕ) (j : Job) (r : Result) (h : Holds t k v j r)
           (times (cond (b && not (ltb space (length (showResult (afterStep t slot))))) 1 0) (nextReading j) r)
       go false e = step-apart t k v j r h slot visit space e
       go true e =
-          let slot-is = eqb-true slot k (and-fst (eqb slot k) (eqb visit v) e) in
-          let visit-is = eqb-true visit v (and-snd (eqb slot k) (eqb visit v) e) in
+          let slot-is = eqb-true slot k (and-left (eqb slot k) (eqb visit v) e) in
+          let visit-is = eqb-true visit v (and-right (eqb slot k) (eqb visit v) e) in
           rw (slot-is, visit-is) (step-own space)
 
   one : (c : Call) → Keeps k v c → Holds (after t c) k v j (times (ownStep k v t c) (nextReading j) r)

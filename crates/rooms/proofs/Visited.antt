@@ -24,7 +24,7 @@ use Rattle.rooms.specs.declared.Room.{Room}
 use Rattle.rooms.specs.Table.{roomsMax, readingFrom, readingMost, jobFrom, jobMost, freeRoom, brokenRoom}
 use Rattle.rooms.specs.Table.{takenRoom, isVisit, heldBy, roomOf, lastIn, slotIn, roomAt, whole}
 use Rattle.rooms.specs.Calls.{tableStatus, isTaken, heldStatus}
-use Rattle.rooms.proofs.Whole.{and-fst, and-snd}
+use Rattle.term_checks.proofs.RangeLaws.{and-left, and-right}
 
 -- slot s holds a visit of job j with reading r, where the last visit number is `last`
 pub record Visited (last : ℕ) (s : List ℕ) (j : Job) (r : Result) : Type 0 where
@@ -130,15 +130,15 @@ pub record Together (last : ℕ) (j : Job) (r : Result) : Type 0 where
 pub together : (last : ℕ) (j : Job) (r : Result) → isVisit last j r ≡ true → Together last j r
 unfolding isVisit
 together last j r e =
-    let rest = and-snd (eqb (r .number) (j .head .number)) _ e in
-    let more = and-snd (eqb (r .n) (j .head .n)) _ rest in
-    let visit = and-fst (leb 1 (r .visit) && leb (r .visit) last) _ more in
+    let rest = and-right (eqb (r .number) (j .head .number)) _ e in
+    let more = and-right (eqb (r .n) (j .head .n)) _ rest in
+    let visit = and-left (leb 1 (r .visit) && leb (r .visit) last) _ more in
     record {
-      number = eqb-true (r .number) (j .head .number) (and-fst _ _ e);
-      same = eqb-true (r .n) (j .head .n) (and-fst _ _ rest);
-      first = leb-true 1 (r .visit) (and-fst _ _ visit);
-      known = leb-true (r .visit) last (and-snd (leb 1 (r .visit)) _ visit);
-      steps = leb-true (r .steps) (j .steps) (and-snd (leb 1 (r .visit) && leb (r .visit) last) _ more);
+      number = eqb-true (r .number) (j .head .number) (and-left _ _ e);
+      same = eqb-true (r .n) (j .head .n) (and-left _ _ rest);
+      first = leb-true 1 (r .visit) (and-left _ _ visit);
+      known = leb-true (r .visit) last (and-right (leb 1 (r .visit)) _ visit);
+      steps = leb-true (r .steps) (j .steps) (and-right (leb 1 (r .visit) && leb (r .visit) last) _ more);
     }
 
 pub are-together : (last : ℕ) (j : Job) (r : Result) → Together last j r → isVisit last j r ≡ true
@@ -179,12 +179,12 @@ pub held-at : (t : List ℕ) (slot visit : ℕ) → isBad (heldStatus t slot vis
 held-at t slot visit e =
     let done = not-bad (heldStatus t slot visit) e in
     let held = unless-fine _ Fault.NotOpen (fine-line _ 0 (done-next (tableStatus t) _ done)) in
-    let room = and-snd (ltb slot roomsMax) _ held in
+    let room = and-right (ltb slot roomsMax) _ held in
     record {
       is-whole = unless-fine _ Fault.Table (fine-line _ 0 (done-first _ _ done));
-      inside = ltb-true slot roomsMax (and-fst _ _ held);
-      taken = and-fst _ _ room;
-      is-visit = eqb-true (roomAt t slot .reading .visit) visit (and-snd (isTaken (roomAt t slot .standing)) _ room);
+      inside = ltb-true slot roomsMax (and-left _ _ held);
+      taken = and-left _ _ room;
+      is-visit = eqb-true (roomAt t slot .reading .visit) visit (and-right (isTaken (roomAt t slot .standing)) _ room);
     }
 
 -- what the code knows of a visit that is held

@@ -1,23 +1,17 @@
 -- The form of the table, test by test.
 use Prim.Native.Nat.{ℕ, _≤_, _<_}
-use mathlib.Core.Path.{_≡_, refl, sym}
-use mathlib.Core.Bool.{Bool, true, false, _&&_, true≢false}
+use mathlib.Core.Path.{_≡_, refl}
+use mathlib.Core.Bool.{Bool, true, false}
 use mathlib.Core.List.{List}
 use lib.ListN.{length}
 use lib.Dec.{leb}
 use borrow.Author.Tests.{le-leb, lt-leb, leb-true}
 use Rattle.sizes.specs.Sizes.{visitMax}
+use Rattle.term_checks.proofs.RangeLaws.{and-left, and-right}
+use Rattle.reading.proofs.Goes.{and-false}
 use Rattle.lists.specs.Loops.{allB}
 use Rattle.lists.proofs.All.{all-each}
 use Rattle.rooms.specs.Table.{roomsMax, tableSize, lastIn, roomAt, isWhole, whole}
-
-pub and-fst : (a b : Bool) → a && b ≡ true → a ≡ true
-and-fst true b e = refl
-and-fst false b e = e
-
-pub and-snd : (a b : Bool) → a && b ≡ true → b ≡ true
-and-snd true b e = e
-and-snd false b e = absurd (true≢false (sym e))
 
 module _ (t : List ℕ) where
   abbrev Each : Bool
@@ -30,10 +24,6 @@ module _ (t : List ℕ) where
   pub too-many : visitMax < lastIn t → whole t ≡ false
   unfolding whole
   too-many h = rw (lt-leb (lastIn t) visitMax h) (and-false (leb tableSize (length t)))
-    where
-      and-false : (b : Bool) → b && false ≡ false
-      and-false true = refl
-      and-false false = refl
 
   pub by-rooms : tableSize ≤ length t → lastIn t ≤ visitMax → whole t ≡ Each
   unfolding whole
@@ -42,13 +32,13 @@ module _ (t : List ℕ) where
   module _ (e : whole t ≡ true) where
     pub whole-long : tableSize ≤ length t
     unfolding whole
-    whole-long = leb-true tableSize (length t) (and-fst _ _ e)
+    whole-long = leb-true tableSize (length t) (and-left _ _ e)
 
     pub whole-last : lastIn t ≤ visitMax
     unfolding whole
-    whole-last = leb-true (lastIn t) visitMax (and-fst _ _ (and-snd (leb tableSize (length t)) _ e))
+    whole-last = leb-true (lastIn t) visitMax (and-left _ _ (and-right (leb tableSize (length t)) _ e))
 
     pub whole-each : (k : ℕ) → k < roomsMax → isWhole (roomAt t k .standing) ≡ true
     unfolding whole
     whole-each k l =
-        all-each _ roomsMax k l (and-snd (leb (lastIn t) visitMax) _ (and-snd (leb tableSize (length t)) _ e))
+        all-each _ roomsMax k l (and-right (leb (lastIn t) visitMax) _ (and-right (leb tableSize (length t)) _ e))
