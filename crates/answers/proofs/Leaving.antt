@@ -19,8 +19,8 @@ use Rattle.text.specs.Words.{visitKey}
 use Rattle.writing.specs.Wrote.{Wrote}
 use Rattle.writing.proofs.Lines.{count-line-short, end-length, end-none}
 use Rattle.cells.proofs.Writing.{put-in-part}
-use Rattle.rooms.specs.declared.Opened.{Opened}
-use Rattle.rooms.specs.Calls.{openAnswer}
+use Rattle.room_form.specs.declared.Opened.{Opened}
+use Rattle.room_form.specs.Calls.{openAnswer}
 use Rattle.answers.specs.Answers.{roomMax}
 use Rattle.answers.specs.Calls.{slotKey, openedBytes, orShort}
 

@@ -16,9 +16,9 @@ use Rattle.arguments.specs.Visits.{shownBy, readBy}
 use Rattle.arguments.specs.declared.visits.Shown.{Shown}
 use Rattle.requests.specs.declared.Call.{Call}
 use Rattle.result_form.specs.ResultShows.{showResult}
-use Rattle.rooms.specs.Table.{roomAt}
-use Rattle.rooms.specs.Calls.{unless, clearStatus, cleared, lowestFree, openStatus, nextVisit, opened}
-use Rattle.rooms.specs.Calls.{heldStatus, afterStep, stepped, closed}
+use Rattle.room_form.specs.Table.{roomAt}
+use Rattle.room_form.specs.Calls.{unless, clearStatus, cleared, lowestFree, openStatus, nextVisit, opened}
+use Rattle.room_form.specs.Calls.{heldStatus, afterStep, stepped, closed}
 use Rattle.answers.specs.Answers.{roomMax}
 
 -- ---- the arguments, behind the first word

@@ -5,8 +5,8 @@ ghost use lib.ListN.{length};
 ghost use Rattle.faults.specs.Answer.{refused, Leaves};
 ghost use Rattle.writing.specs.Wrote.{Wrote};
 ghost use Rattle.result_form.specs.ResultShows.{showResult};
-ghost use Rattle.rooms.specs.Table.{roomAt};
-ghost use Rattle.rooms.specs.Calls.{lowestFree, openStatus, nextVisit, opened, heldStatus, afterStep, stepped, closed};
+ghost use Rattle.room_form.specs.Table.{roomAt};
+ghost use Rattle.room_form.specs.Calls.{lowestFree, openStatus, nextVisit, opened, heldStatus, afterStep, stepped, closed};
 ghost use Rattle.answers.specs.Answers.{roomMax};
 ghost use Rattle.answers.specs.Calls.{shownAsked, readAsked, openedBytes, orShort};
 ghost use Rattle.answers.specs.Calls.{callStatus, callText, callTable};
@@ -59,7 +59,7 @@ fn reply_open(table: &mut [u8], text: &[u8], out: &mut [u8]) -> Written
         (now (out .exit)) a ⌝ }
     ensures table { λ _. ⌜ now (table .exit) ≡ opened (now (table .entry)) (now (text .entry)) ⌝ }
 {
-    let r = rooms::calls::open(table, text);
+    let r = rooms::open(table, text);
     let status = r.status;
     match status {
         Status::Refused(f, line) => silent(Status::Refused(f, line)),
@@ -81,7 +81,7 @@ fn reply_step(table: &mut [u8], words: &[u8], out: &mut [u8]) -> Written
         (shownAsked (now (words .entry)) .visit) (length (now (out .entry))) ⌝ }
 {
     let shown = shown_asked(words);
-    rooms::calls::step(table, shown.slot, shown.visit, out)
+    rooms::step(table, shown.slot, shown.visit, out)
 }
 
 // The buffer that the reading has is ROOM bytes long.
@@ -97,7 +97,7 @@ fn reply_reading(table: &[u8], words: &[u8], out: &mut [u8]) -> Written
 {
     let shown = read_asked(words);
     let room = shown.room;
-    rooms::calls::reading(table, shown.slot, shown.visit, &mut out[0..room])
+    rooms::reading(table, shown.slot, shown.visit, &mut out[0..room])
 }
 
 fn reply_close(table: &mut [u8], words: &[u8]) -> Status
@@ -109,7 +109,7 @@ fn reply_close(table: &mut [u8], words: &[u8]) -> Status
         (shownAsked (now (words .entry)) .visit) ⌝ }
 {
     let shown = shown_asked(words);
-    rooms::calls::close(table, shown.slot, shown.visit)
+    rooms::close(table, shown.slot, shown.visit)
 }
 
 fn call_in(call: Call, table: &mut [u8], words: &[u8], text: &[u8], out: &mut [u8]) -> Written
@@ -121,7 +121,7 @@ fn call_in(call: Call, table: &mut [u8], words: &[u8], text: &[u8], out: &mut [u
         ≡ callTable call (now (table .entry)) (now (words .entry)) (now (text .entry)) ⌝ }
 {
     match call {
-        Call::Clear => silent(rooms::calls::clear(table)),
+        Call::Clear => silent(rooms::clear(table)),
         Call::Open => reply_open(table, text, out),
         Call::Step => reply_step(table, words, out),
         Call::Reading => reply_reading(table, words, out),

@@ -51,3 +51,11 @@ part-inside bs a n b (x ∷ xs) h =
 -- a byte of a part
 pub part-byte : (bs : List ℕ) (a n i : ℕ) → i < n → getD (part a n bs) i 0 ≡ getD bs (a + i) 0
 part-byte bs a n i h = getD-take n (drop a bs) i 0 h ∙ getD-drop a bs i 0
+
+-- as the code cuts a part: from a place on, so many bytes
+pub cut-part : (bs : List ℕ) (a n : ℕ) → take (a + n - a) (drop a bs) ≡ part a n bs
+cut-part bs a n = let e : a + n - a ≡ n = omega arith in ap (λ (k : ℕ). take k (drop a bs)) e
+
+-- and where their number is told
+pub cut-told : (bs : List ℕ) (a : ℕ) {m n : ℕ} → m ≡ n → take (a + m - a) (drop a bs) ≡ part a n bs
+cut-told bs a {m} {n} e = let k : a + m - a ≡ n = omega (arith, e) in ap (λ (k : ℕ). take k (drop a bs)) k

@@ -19,7 +19,8 @@ use Rattle.result_form.specs.ResultForm.{readResult}
 use Rattle.result_form.proofs.Trips as result-trips
 use Rattle.result_form.proofs.Answers as result
 use Rattle.desk.specs.Desk.{jobStatus, jobText, resultStatus, resultText, runStatus, runText, solveStatus, solveText}
-use Rattle.promises.proofs.Results.{run-done, run-checked, run-short}
+use Rattle.runs.proofs.Results.{run-done, run-checked}
+use Rattle.promises.proofs.Results.{run-short}
 
 -- what follows a reading without a fault has none
 first-only : (st next : Status) → (st ≡ Status.Done → next ≡ Status.Done) → andThen st next ≡ st

@@ -7,16 +7,16 @@ use borrow.Fn.Kinds.{Dens, resT, endedOf}
 use contract.Lifetimes.{Lfts}
 use Rattle.faults.proofs.Answer as written
 use Rattle.c_answers.proofs.Gives as gives
-use Rattle.rooms.proofs.calls.clear.Reads as clear-call
-use Rattle.rooms.proofs.calls.clear.Kinds as clear-kinds
-use Rattle.rooms.proofs.calls.«open».Reads as open-call
-use Rattle.rooms.proofs.calls.«open».Kinds as open-kinds
-use Rattle.rooms.proofs.calls.step.Reads as step-call
-use Rattle.rooms.proofs.calls.step.Kinds as step-kinds
-use Rattle.rooms.proofs.calls.reading.Reads as reading-call
-use Rattle.rooms.proofs.calls.reading.Kinds as reading-kinds
-use Rattle.rooms.proofs.calls.close.Reads as close-call
-use Rattle.rooms.proofs.calls.close.Kinds as close-kinds
+use Rattle.rooms.proofs.clear.Reads as clear-call
+use Rattle.rooms.proofs.clear.Kinds as clear-kinds
+use Rattle.rooms.proofs.«open».Reads as open-call
+use Rattle.rooms.proofs.«open».Kinds as open-kinds
+use Rattle.rooms.proofs.step.Reads as step-call
+use Rattle.rooms.proofs.step.Kinds as step-kinds
+use Rattle.rooms.proofs.reading.Reads as reading-call
+use Rattle.rooms.proofs.reading.Kinds as reading-kinds
+use Rattle.rooms.proofs.close.Reads as close-call
+use Rattle.rooms.proofs.close.Kinds as close-kinds
 use Rattle.floodrafter_c.proofs.screens.floodrafter_room_clear.Reads as clear-for-c
 use Rattle.floodrafter_c.proofs.screens.floodrafter_room_clear.Kinds as clear-for-c-kinds
 use Rattle.floodrafter_c.proofs.screens.floodrafter_room_open.Reads as open-for-c

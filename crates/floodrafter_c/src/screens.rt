@@ -5,9 +5,9 @@ ghost use Rattle.result_form.specs.ResultShows.{showResult};
 ghost use Rattle.c_answers.specs.Numbers.{checked, Gives};
 ghost use Rattle.phrases.specs.Says.{Says, sentenceMax};
 ghost use Rattle.sentences.specs.Sentences.{tableWords};
-ghost use Rattle.rooms.specs.Table.{roomAt};
-ghost use Rattle.rooms.specs.Calls.{clearStatus, cleared, lowestFree, nextVisit, openStatus, opened};
-ghost use Rattle.rooms.specs.Calls.{heldStatus, afterStep, stepped, closed};
+ghost use Rattle.room_form.specs.Table.{roomAt};
+ghost use Rattle.room_form.specs.Calls.{clearStatus, cleared, lowestFree, nextVisit, openStatus, opened};
+ghost use Rattle.room_form.specs.Calls.{heldStatus, afterStep, stepped, closed};
 ghost use Rattle.floodrafter_c.specs.Screens.{openedBy};
 use c_answers::Answer;
 use c_answers::numbers;
@@ -48,7 +48,7 @@ pub extern "C" fn floodrafter_room_clear(table: &mut [u8]) -> Answer
     ensures answer { λ a. ⌜ a ≡ checked (clearStatus (now (table .entry))) ⌝ }
     ensures table { λ _. ⌜ now (table .exit) ≡ cleared (now (table .entry)) ⌝ }
 {
-    let status = rooms::calls::clear(table);
+    let status = rooms::clear(table);
     numbers(Written { status, len: 0 })
 }
 
@@ -58,7 +58,7 @@ pub extern "C" fn floodrafter_room_open(table: &mut [u8], text: &[u8]) -> Opened
         (lowestFree (now (table .entry))) (nextVisit (now (table .entry))) ⌝ }
     ensures table { λ _. ⌜ now (table .exit) ≡ opened (now (table .entry)) (now (text .entry)) ⌝ }
 {
-    let o = rooms::calls::open(table, text);
+    let o = rooms::open(table, text);
     let status = o.status;
     told(status, o.slot, o.visit)
 }
@@ -75,7 +75,7 @@ pub extern "C" fn floodrafter_room_step(
     ensures table { λ _. ⌜ now (table .exit)
         ≡ stepped (now (table .entry)) slot visit (length (now (out .entry))) ⌝ }
 {
-    let w = rooms::calls::step(table, slot, visit, out);
+    let w = rooms::step(table, slot, visit, out);
     numbers(w)
 }
 
@@ -89,7 +89,7 @@ pub extern "C" fn floodrafter_room_reading(
     ensures { λ a. ⌜ Gives (heldStatus (now (table .entry)) slot visit)
         (showResult (roomAt (now (table .entry)) slot .reading)) (now (out .entry)) (now (out .exit)) a ⌝ }
 {
-    let w = rooms::calls::reading(table, slot, visit, out);
+    let w = rooms::reading(table, slot, visit, out);
     numbers(w)
 }
 
@@ -98,7 +98,7 @@ pub extern "C" fn floodrafter_room_close(table: &mut [u8], slot: u64, visit: u64
     ensures answer { λ a. ⌜ a ≡ checked (heldStatus (now (table .entry)) slot visit) ⌝ }
     ensures table { λ _. ⌜ now (table .exit) ≡ closed (now (table .entry)) slot visit ⌝ }
 {
-    let status = rooms::calls::close(table, slot, visit);
+    let status = rooms::close(table, slot, visit);
     numbers(Written { status, len: 0 })
 }
 

@@ -20,13 +20,13 @@ use Rattle.cells.specs.Cells.{numberAt, numberBytes, cell, zeros}
 use Rattle.cells.proofs.Cells.{number-alone, number-in, cell-length, zeros-length, wiped-number}
 use Rattle.visits.specs.Visits.{openedAs}
 use Rattle.visits.proofs.Readings.{opened-live, opened-right}
-use Rattle.rooms.specs.Table.{roomsMax, jobFrom, slotSize, tableSize, slotFrom, slotIn}
-use Rattle.rooms.specs.Table.{lastIn, freeRoom, takenRoom, isVisit, roomOf, roomAt, isWhole}
-use Rattle.rooms.specs.Calls.{nextVisit, withVisitor}
-use Rattle.rooms.proofs.Visited.{Visited, visited-room, are-together}
+use Rattle.room_form.specs.Table.{roomsMax, jobFrom, slotSize, tableSize, slotFrom, slotIn}
+use Rattle.room_form.specs.Table.{lastIn, freeRoom, takenRoom, isVisit, roomOf, roomAt, isWhole}
+use Rattle.room_form.specs.Calls.{nextVisit, withVisitor}
+use Rattle.room_form.proofs.Visited.{Visited, visited-room, are-together}
 use Rattle.histories.proofs.Free.{is-free, room-later}
-use Rattle.rooms.proofs.PutReading.{reading-short}
-use Rattle.rooms.proofs.Opening.{job-short}
+use Rattle.room_form.proofs.PutReading.{reading-short}
+use Rattle.room_form.proofs.Opening.{job-short}
 use Rattle.histories.proofs.Kept.{other-slot, own-slot, same-last, head-set, slot-long, read-again, visitor-there}
 
 -- a slot's first byte

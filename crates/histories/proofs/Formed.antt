@@ -24,14 +24,14 @@ use Rattle.result_form.specs.ResultShows.{showResult, live}
 use Rattle.cells.specs.Cells.{cell, zeros}
 use Rattle.visits.specs.Visits.{openedAs, nextReading, Stands}
 use Rattle.visits.proofs.Readings.{few, next-stands, next-live, next-visit}
-use Rattle.rooms.specs.declared.Room.{Room}
-use Rattle.rooms.specs.Table.{roomsMax, tableSize, slotFrom, slotSize, lastIn, takenRoom, isVisit}
-use Rattle.rooms.specs.Table.{roomAt, isWhole, whole}
-use Rattle.rooms.specs.Calls.{unless, tableStatus, cleared, lowestFree, nextVisit, openStatus, opened, withVisitor}
-use Rattle.rooms.specs.Calls.{heldStatus}
-use Rattle.rooms.proofs.Whole.{by-rooms, whole-long, whole-last, whole-each}
-use Rattle.rooms.proofs.Visited.{visited-together, are-together, held-at, at-visited, at-stands}
-use Rattle.rooms.proofs.Visited.{reading-exactly}
+use Rattle.room_form.specs.declared.Room.{Room}
+use Rattle.room_form.specs.Table.{roomsMax, tableSize, slotFrom, slotSize, lastIn, takenRoom, isVisit}
+use Rattle.room_form.specs.Table.{roomAt, isWhole, whole}
+use Rattle.room_form.specs.Calls.{unless, tableStatus, cleared, lowestFree, nextVisit, openStatus, opened, withVisitor}
+use Rattle.room_form.specs.Calls.{heldStatus}
+use Rattle.room_form.proofs.Whole.{by-rooms, whole-long, whole-last, whole-each}
+use Rattle.room_form.proofs.Visited.{visited-together, are-together, held-at, at-visited, at-stands}
+use Rattle.room_form.proofs.Visited.{reading-exactly}
 use Rattle.histories.proofs.After.{step-own, step-other, step-last, close-own, close-other, close-last}
 use Rattle.histories.proofs.After.{clear-last, clear-room, open-own, open-other, open-last}
 

@@ -12,11 +12,11 @@ use Rattle.job_form.specs.JobForm.{readJob}
 use Rattle.result_form.specs.declared.ResultRead.{ResultRead}
 use Rattle.result_form.specs.ResultForm.{readResult}
 use Rattle.cells.specs.Cells.{numberAt, textAt}
-use Rattle.rooms.specs.declared.Standing.{Standing}
-use Rattle.rooms.specs.Table.{readingFrom, readingMost, jobFrom, jobMost, freeRoom, brokenRoom, takenRoom, isVisit}
-use Rattle.rooms.specs.Table.{heldBy, roomOf, isWhole}
-use Rattle.rooms.specs.Calls.{isFree, isTaken}
-use Rattle.rooms.proofs.Visited.{Visited, room-visited, visited-room, together, are-together}
+use Rattle.room_form.specs.declared.Standing.{Standing}
+use Rattle.room_form.specs.Table.{readingFrom, readingMost, jobFrom, jobMost, freeRoom, brokenRoom, takenRoom, isVisit}
+use Rattle.room_form.specs.Table.{heldBy, roomOf, isWhole}
+use Rattle.room_form.specs.Calls.{isFree, isTaken}
+use Rattle.room_form.proofs.Visited.{Visited, room-visited, visited-room, together, are-together}
 
 -- no text makes a slot free
 not-free : (last : ℕ) (j : JobRead) (r : ResultRead) → isFree (heldBy last j r .standing) ≡ false

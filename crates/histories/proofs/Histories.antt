@@ -15,8 +15,8 @@ use Rattle.result_form.specs.ResultShows.{showResult}
 use Rattle.cells.specs.Cells.{cell}
 use Rattle.visits.specs.Visits.{openedAs, nextReading, times}
 use Rattle.job_form.specs.JobForm.{readJob}
-use Rattle.rooms.specs.Table.{slotFrom, roomAt}
-use Rattle.rooms.specs.Calls.{lowestFree, nextVisit, openStatus, opened, afterStep, finished, stepped}
+use Rattle.room_form.specs.Table.{slotFrom, roomAt}
+use Rattle.room_form.specs.Calls.{lowestFree, nextVisit, openStatus, opened, afterStep, finished, stepped}
 use Rattle.histories.specs.Histories.{Call, after, afterAll, Holds, shows, ownStep, ownSteps, Keeps, Stays}
 use Rattle.term_checks.proofs.RangeLaws.{and-left, and-right}
 use Rattle.histories.proofs.Formed.{open-slot, opened-own, open-formed}

@@ -18,13 +18,13 @@ use Rattle.result_form.specs.ResultShows.{showResult}
 use Rattle.cells.specs.Cells.{cell, zeros}
 use Rattle.visits.specs.Visits.{nextReading}
 use Rattle.visits.proofs.Readings.{next-visit}
-use Rattle.rooms.specs.declared.Room.{Room}
-use Rattle.rooms.specs.Table.{roomsMax, slotFrom, slotSize, takenRoom, roomAt, whole}
-use Rattle.rooms.specs.Calls.{isFree, firstFrom, lowestFree, openStatus, opened, heldStatus, afterStep}
-use Rattle.rooms.specs.Calls.{finished, stepped, closed}
+use Rattle.room_form.specs.declared.Room.{Room}
+use Rattle.room_form.specs.Table.{roomsMax, slotFrom, slotSize, takenRoom, roomAt, whole}
+use Rattle.room_form.specs.Calls.{isFree, firstFrom, lowestFree, openStatus, opened, heldStatus, afterStep}
+use Rattle.room_form.specs.Calls.{finished, stepped, closed}
 use Rattle.histories.specs.Histories.{Call, after, Holds, shows}
-use Rattle.rooms.proofs.Whole.{whole-long}
-use Rattle.rooms.proofs.Visited.{held-at}
+use Rattle.room_form.proofs.Whole.{whole-long}
+use Rattle.room_form.proofs.Visited.{held-at}
 use Rattle.histories.proofs.After.{close-other}
 use Rattle.histories.proofs.Formed.{open-slot, opened-other, open-formed, moved-own, moved-other}
 use Rattle.histories.proofs.Formed.{moved-formed, closed-formed}

@@ -24,11 +24,11 @@ use Rattle.cells.specs.Cells.{numberAt, cell, textAt}
 use Rattle.cells.proofs.Parts.{part-before, part-behind, part-inside}
 use Rattle.cells.proofs.Cells.{number-before, text-before, text-behind, number-behind}
 use Rattle.cells.proofs.Cells.{length-back, text-back, cell-length}
-use Rattle.rooms.specs.Table.{roomsMax, readingFrom, readingMost, jobFrom, jobMost, slotSize, tableSize, slotFrom}
-use Rattle.rooms.specs.Table.{slotIn, lastIn, isVisit}
-use Rattle.rooms.proofs.PutReading.{reading-short}
-use Rattle.rooms.proofs.Opening.{job-short}
-use Rattle.rooms.proofs.Visited.{Visited}
+use Rattle.room_form.specs.Table.{roomsMax, readingFrom, readingMost, jobFrom, jobMost, slotSize, tableSize, slotFrom}
+use Rattle.room_form.specs.Table.{slotIn, lastIn, isVisit}
+use Rattle.room_form.proofs.PutReading.{reading-short}
+use Rattle.room_form.proofs.Opening.{job-short}
+use Rattle.room_form.proofs.Visited.{Visited}
 
 -- ---- places
 

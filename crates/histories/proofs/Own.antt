@@ -10,12 +10,14 @@ use Rattle.jobs.specs.declared.Job.{Job}
 use Rattle.jobs.specs.declared.Result.{Result}
 use Rattle.job_form.specs.JobForm.{readJob}
 use Rattle.job_form.proofs.Answers.{read-checked}
+use Rattle.result_form.specs.ResultForm.{withVisit}
 use Rattle.run.specs.Job.{runFrom}
 use Rattle.step.specs.Values.{startOf}
 use Rattle.visits.specs.Visits.{readingOf, nextReading, times}
 use Rattle.visits.proofs.Steps.{steps-add}
-use Rattle.rooms.specs.Table.{roomsMax, takenRoom, roomAt}
-use Rattle.rooms.specs.Calls.{isFree, firstFrom, lowestFree, nextVisit, openStatus, opened}
+use Rattle.room_form.specs.declared.Room.{Room}
+use Rattle.room_form.specs.Table.{roomsMax, takenRoom, roomAt}
+use Rattle.room_form.specs.Calls.{isFree, firstFrom, lowestFree, nextVisit, openStatus, opened}
 use Rattle.histories.specs.Histories.{Call, afterAll, Holds, ownSteps, Stays}
 use Rattle.histories.proofs.Formed.{open-read}
 use Rattle.histories.proofs.Histories.{isolated, opened-holds}
@@ -62,3 +64,17 @@ two-histories h g t u k v i w j r first second stays remains same =
     isolated h t k v j r first stays .room
     ∙ ap (λ (n : ℕ). takenRoom j (times n (nextReading j) r)) same
     ∙ sym (isolated g u i w j r second remains .room)
+
+-- two visits of one job text, each on its table and in its slot, after as many own step calls: alike but for their numbers
+pub same-readings : (h g : List Call) (t u text : List ℕ) → openStatus t text ≡ Status.Done
+    → openStatus u text ≡ Status.Done → Stays (lowestFree t) (nextVisit t) h → Stays (lowestFree u) (nextVisit u) g
+    → ownSteps (lowestFree t) (nextVisit t) (opened t text) h ≡ ownSteps (lowestFree u) (nextVisit u) (opened u text) g
+    → withVisit (roomAt (afterAll (opened t text) h) (lowestFree t) .reading) 0
+    ≡ withVisit (roomAt (afterAll (opened u text) g) (lowestFree u) .reading) 0
+same-readings h g t u text first second stays remains same =
+    ap (λ (room : Room). withVisit (room .reading) 0) (own-reading t text first h stays .room)
+    ∙ ap (λ (calls : ℕ). withVisit (readingOf 0 job (runFrom job (startOf job) (min calls (job .steps)))) 0) same
+    ∙ sym (ap (λ (room : Room). withVisit (room .reading) 0) (own-reading u text second g remains .room))
+  where
+    job : Job
+    job = readJob text .job

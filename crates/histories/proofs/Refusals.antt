@@ -4,10 +4,10 @@ use native.Mathlib.Omega.{arith}
 use mathlib.Core.Path.{_≡_, refl, sym, ap, _∙_}
 use mathlib.Core.Bool.{Bool, true, false, cond, _&&_, true≢false}
 use mathlib.Core.List.{List}
-use mathlib.Core.Logic.{_⊎_, inl, inr}
+use mathlib.Core.Logic.{_⊎_, inl, inr, ⊎-elim}
 use lib.ListN.{length}
 use lib.Dec.{ltb}
-use borrow.Author.Tests.{lt-ltb, lt-leb, le-leb}
+use borrow.Author.Tests.{lt-ltb, lt-leb, le-leb, ltb-false}
 use Rattle.digits.proofs.Cases.{either}
 use Rattle.faults.specs.declared.Fault.{Fault}
 use Rattle.faults.specs.declared.Status.{Status}
@@ -23,12 +23,14 @@ use Rattle.job_form.proofs.Answers.{read-status, first-bad}
 use Rattle.job_form.proofs.Faults.{job-says}
 use Rattle.result_form.specs.ResultShows.{showResult}
 use Rattle.visits.specs.Visits.{nextReading}
-use Rattle.rooms.specs.Table.{roomsMax, tableSize, freeRoom, lastIn, roomAt, whole}
-use Rattle.rooms.specs.Calls.{cleared, isFree, lowestFree, nextVisit, openStatus, opened, holds, heldStatus}
-use Rattle.rooms.specs.Calls.{afterStep, finished, stepped, closed}
-use Rattle.rooms.proofs.Whole.{whole-long}
-use Rattle.rooms.proofs.Visited.{HeldAt, held-at}
+use Rattle.room_form.specs.declared.Standing.{Standing}
+use Rattle.room_form.specs.Table.{roomsMax, tableSize, freeRoom, lastIn, roomAt, whole}
+use Rattle.room_form.specs.Calls.{clearStatus, cleared, isFree, lowestFree, nextVisit, openStatus, opened}
+use Rattle.room_form.specs.Calls.{isTaken, holds, heldStatus, afterStep, finished, stepped, closed}
+use Rattle.room_form.proofs.Whole.{whole-long, whole-each}
+use Rattle.room_form.proofs.Visited.{HeldAt, held-at}
 use Rattle.histories.proofs.After.{clear-last, close-own}
+use Rattle.histories.proofs.Free.{free-or-taken}
 use Rattle.histories.proofs.Isolated.{lowest-is-free}
 use Rattle.histories.proofs.Own.{lower-taken}
 
@@ -60,6 +62,14 @@ finished-stays t slot visit space e = (finished-unmoved t slot visit space e, rw
 
 -- ---- 16, then 15
 
+pub clear-no-table : (t : List ℕ) → length t < tableSize → clearStatus t ≡ Status.Refused Fault.Table 0
+unfolding badUnless onLine
+clear-no-table t few = rw (lt-leb tableSize (length t) few) refl
+
+pub clear-done : (t : List ℕ) → tableSize ≤ length t → clearStatus t ≡ Status.Done
+unfolding badUnless onLine
+clear-done t long = rw (le-leb tableSize (length t) long) refl
+
 pub held-no-table : (t : List ℕ) (slot visit : ℕ) → whole t ≡ false → heldStatus t slot visit ≡ Status.Refused Fault.Table 0
 unfolding badUnless onLine andThen
 held-no-table t slot visit e = rw e refl
@@ -87,21 +97,27 @@ text-fault text f n e =
     same-fault : Status.Refused Fault.LongText 0 ≡ Status.Refused f n → faultNumber f ≤ faultMax
     same-fault q = omega (arith, ap numberOf q)
 
-not-table : (text : List ℕ) (st : Status) → readJob text .status ≡ st → st ≡ Status.Refused Fault.Table 0 → ⊥
-not-table text st e q = omega (arith, text-fault text Fault.Table 0 (e ∙ q))
+-- what a whole table refuses by a fault of its own: 13 where no slot is free, 14 where the last visit was handed out
+own-fault : (t text : List ℕ) → whole t ≡ true → (f : Fault) → faultMax < faultNumber f
+    → openStatus t text ≡ Status.Refused f 0
+    → ((faultNumber f ≡ 13) × (roomsMax ≤ lowestFree t)) ⊎ ((faultNumber f ≡ 14) × (visitMax ≤ lastIn t))
+unfolding badUnless onLine andThen
+own-fault t text e f own bad =
+    go (readJob text .status) (ltb (lowestFree t) roomsMax) (ltb (lastIn t) visitMax) refl refl refl (rw e at bad)
+  where
+    go : (st : Status) (b c : Bool) → readJob text .status ≡ st → ltb (lowestFree t) roomsMax ≡ b
+        → ltb (lastIn t) visitMax ≡ c
+        → andThen st (andThen (onLine (badUnless b Fault.Full) 0) (onLine (badUnless c Fault.Visits) 0))
+        ≡ Status.Refused f 0
+        → ((faultNumber f ≡ 13) × (roomsMax ≤ lowestFree t)) ⊎ ((faultNumber f ≡ 14) × (visitMax ≤ lastIn t))
+    go (Status.Refused g n) b c is p q same = absurd (omega (arith, own, text-fault text g n is, ap numberOf same))
+    go Status.Done false c is p q same = inl (sym (ap numberOf same), ltb-false (lowestFree t) roomsMax p)
+    go Status.Done true false is p q same = inr (sym (ap numberOf same), ltb-false (lastIn t) visitMax q)
+    go Status.Done true true is p q same = absurd (omega (arith, own, ap numberOf same))
 
 pub only-no-table : (t text : List ℕ) → whole t ≡ true → openStatus t text ≡ Status.Refused Fault.Table 0 → ⊥
-unfolding badUnless onLine andThen
 only-no-table t text e bad =
-    go (readJob text .status) (ltb (lowestFree t) roomsMax) (ltb (lastIn t) visitMax) (rw e at bad) refl
-  where
-    go : (st : Status) (b c : Bool)
-        → andThen st (andThen (onLine (badUnless b Fault.Full) 0) (onLine (badUnless c Fault.Visits) 0))
-        ≡ Status.Refused Fault.Table 0 → readJob text .status ≡ st → ⊥
-    go (Status.Refused f n) b c q is = not-table text (Status.Refused f n) is q
-    go Status.Done false c q is = let z = ap numberOf q in omega (arith, z)
-    go Status.Done true false q is = let z = ap numberOf q in omega (arith, z)
-    go Status.Done true true q is = let z = ap numberOf q in omega (arith, z)
+    ⊎-elim (λ is. omega (arith, is .0)) (λ is. omega (arith, is .0)) (own-fault t text e Fault.Table (omega arith) bad)
 
 pub held-only-no-table : (t : List ℕ) (slot visit : ℕ) → whole t ≡ true
     → heldStatus t slot visit ≡ Status.Refused Fault.Table 0 → ⊥
@@ -112,14 +128,41 @@ held-only-no-table t slot visit e bad = go (ltb slot roomsMax && holds (roomAt t
     go true q = let z = ap numberOf q in omega (arith, z)
     go false q = let z = ap numberOf q in omega (arith, z)
 
--- ---- 13
+-- ---- 13, then 14
 
-pub all-taken : (t : List ℕ) → roomsMax ≤ lowestFree t → (i : ℕ) → i < roomsMax → isFree (roomAt t i .standing) ≡ false
-all-taken t full i l = lower-taken t i (omega arith)
+taken-not-free : (s : Standing) → isTaken s ≡ true → isFree s ≡ false
+taken-not-free Standing.Free e = sym e
+taken-not-free Standing.Taken e = refl
+taken-not-free Standing.Broken e = refl
 
-pub none-left : (t : List ℕ) → ((i : ℕ) → i < roomsMax → isFree (roomAt t i .standing) ≡ false) → roomsMax ≤ lowestFree t
+pub none-left : (t : List ℕ) → ((i : ℕ) → i < roomsMax → isTaken (roomAt t i .standing) ≡ true) → roomsMax ≤ lowestFree t
 none-left t taken =
-    either (lowestFree t) roomsMax (λ l. absurd (true≢false (sym (lowest-is-free t l) ∙ taken (lowestFree t) l))) (λ l. l)
+    let k = lowestFree t in
+    either k roomsMax
+    (λ l. absurd (true≢false (sym (lowest-is-free t l) ∙ taken-not-free (roomAt t k .standing) (taken k l)))) (λ l. l)
+
+-- a slot of a whole table that is not free is taken
+all-taken : (t : List ℕ) → whole t ≡ true → roomsMax ≤ lowestFree t → (i : ℕ) → i < roomsMax
+    → isTaken (roomAt t i .standing) ≡ true
+all-taken t e full i l =
+    free-or-taken (roomAt t i .standing) (whole-each t e i l)
+    (λ free. absurd (true≢false (sym free ∙ lower-taken t i (omega arith)))) (λ taken. taken)
+
+pub only-full : (t text : List ℕ) → whole t ≡ true → openStatus t text ≡ Status.Refused Fault.Full 0 → (i : ℕ)
+    → i < roomsMax → isTaken (roomAt t i .standing) ≡ true
+only-full t text e bad =
+    ⊎-elim (λ is. all-taken t e (is .1)) (λ is. absurd (omega (arith, is .0)))
+    (own-fault t text e Fault.Full (omega arith) bad)
+
+pub only-last : (t text : List ℕ) → whole t ≡ true → openStatus t text ≡ Status.Refused Fault.Visits 0
+    → visitMax ≤ lastIn t
+only-last t text e bad =
+    ⊎-elim (λ is. absurd (omega (arith, is .0))) (λ is. is .1) (own-fault t text e Fault.Visits (omega arith) bad)
+
+-- a slot that is free leaves a lowest one
+pub some-left : (t : List ℕ) (i : ℕ) → i < roomsMax → isFree (roomAt t i .standing) ≡ true → lowestFree t < roomsMax
+some-left t i l free =
+    either (lowestFree t) roomsMax (λ some. some) (λ full. absurd (true≢false (sym free ∙ lower-taken t i (omega arith))))
 
 -- ---- "No refusal changes the table."
 

@@ -1,6 +1,6 @@
 -- Request P12, "Eight rooms, slots used again". Only statements, each proved by one line from the files beside this one.
 -- What each call answers, and every byte of the table and of its buffer after it, is its contract
--- (rooms/src/calls.rt over rooms/specs/Calls.antt). Histories are over specs/Histories.antt. The visit line of a
+-- (rooms/src/lib.rt over room_form/specs/Calls.antt). Histories are over specs/Histories.antt. The visit line of a
 -- result is in promises/proofs/RequestP12.antt. Fault.Full is 13, Visits 14, NotOpen 15, Table 16.
 use Prim.Native.Nat.{ℕ, _+_, _≤_, _<_, min}
 use mathlib.Core.Path.{_≡_, ap}
@@ -17,16 +17,17 @@ use Rattle.jobs.specs.declared.Verdict.{Verdict}
 use Rattle.checks.specs.Checks.{checkJob}
 use Rattle.job_form.specs.JobForm.{readJob}
 use Rattle.result_form.specs.ResultShows.{showResult}
+use Rattle.result_form.specs.ResultForm.{withVisit}
 use Rattle.run.specs.Job.{outcomeOf}
 use Rattle.promises.specs.Jobs.{jobRun}
 use Rattle.visits.specs.Visits.{readingOf, nextReading, times, openedAs}
 use Rattle.visits.proofs.Steps as steps
-use Rattle.rooms.specs.Table.{roomsMax, tableSize, freeRoom, lastIn, roomAt, whole}
-use Rattle.rooms.specs.Calls.{cleared, isFree, lowestFree, nextVisit, openStatus, opened, heldStatus, afterStep}
-use Rattle.rooms.specs.Calls.{finished, stepped, closed}
+use Rattle.room_form.specs.Table.{tableSize, freeRoom, lastIn, roomAt, whole}
+use Rattle.room_form.specs.Calls.{clearStatus, cleared, isFree, lowestFree, nextVisit, openStatus, opened, isTaken}
+use Rattle.room_form.specs.Calls.{heldStatus, afterStep, finished, stepped, closed}
 use Rattle.histories.specs.Histories.{Call, after, afterAll, Holds, ownSteps, Stays}
-use Rattle.rooms.proofs.Visited.{HeldAt}
-use Rattle.rooms.proofs.Opening as opening
+use Rattle.room_form.proofs.Visited.{HeldAt}
+use Rattle.room_form.proofs.Opening as opening
 use Rattle.histories.proofs.Refusals as refusals
 use Rattle.histories.proofs.Formed as formed
 use Rattle.histories.proofs.Isolated as isolated
@@ -96,7 +97,16 @@ pub own-calls-only : (t text : List ℕ) → openStatus t text ≡ Status.Done �
     (min (ownSteps (lowestFree t) (nextVisit t) (opened t text) h) (readJob text .job .steps))))
 own-calls-only = own.own-reading
 
--- two histories, on two tables, that agree on a holder's job, reading and own step calls give equal readings
+-- two visits of one job text, on any tables, in any slots, whatever others do: after as many own step calls each they
+-- read alike but for their numbers
+pub own-job-only : (h g : List Call) (t u text : List ℕ) → openStatus t text ≡ Status.Done
+    → openStatus u text ≡ Status.Done → Stays (lowestFree t) (nextVisit t) h → Stays (lowestFree u) (nextVisit u) g
+    → ownSteps (lowestFree t) (nextVisit t) (opened t text) h ≡ ownSteps (lowestFree u) (nextVisit u) (opened u text) g
+    → withVisit (roomAt (afterAll (opened t text) h) (lowestFree t) .reading) 0
+    ≡ withVisit (roomAt (afterAll (opened u text) g) (lowestFree u) .reading) 0
+own-job-only = own.same-readings
+
+-- two histories that agree on a holder's job, reading and own step calls give equal readings
 pub two-histories : (h g : List Call) (t u : List ℕ) (k v i w : ℕ) (j : Job) (r : Result) → Holds t k v j r
     → Holds u i w j r → Stays k v h → Stays i w g → ownSteps k v t h ≡ ownSteps i w u g
     → roomAt (afterAll t h) k ≡ roomAt (afterAll u g) i
@@ -107,7 +117,14 @@ two-histories = own.two-histories
 
 -- ---- refusals
 
--- "first 16, exactly where the lent bytes are too few or, clearing apart, break the table's form"
+-- "first 16, exactly where the lent bytes are too few"
+pub clear-sixteen : (t : List ℕ) → length t < tableSize → clearStatus t ≡ Status.Refused Fault.Table 0
+clear-sixteen = refusals.clear-no-table
+
+pub clear-else : (t : List ℕ) → tableSize ≤ length t → clearStatus t ≡ Status.Done
+clear-else = refusals.clear-done
+
+-- "or, clearing apart, break the table's form"
 pub open-sixteen : (t text : List ℕ) → whole t ≡ false → openStatus t text ≡ Status.Refused Fault.Table 0
 open-sixteen = opening.no-table
 
@@ -134,21 +151,27 @@ pub then-job : (t text : List ℕ) → whole t ≡ true → isBad (readJob text 
 then-job = opening.no-job
 
 -- "then 13 exactly when all eight slots are taken,"
-pub then-full : (t text : List ℕ) → whole t ≡ true → isBad (readJob text .status) ≡ false → roomsMax ≤ lowestFree t
-    → openStatus t text ≡ Status.Refused Fault.Full 0
-then-full = opening.is-full
+pub then-full : (t text : List ℕ) → whole t ≡ true → isBad (readJob text .status) ≡ false
+    → ((i : ℕ) → i < 8 → isTaken (roomAt t i .standing) ≡ true) → openStatus t text ≡ Status.Refused Fault.Full 0
+then-full t text e right taken = opening.is-full t text e right (refusals.none-left t taken)
 
-pub all-taken : (t : List ℕ) → roomsMax ≤ lowestFree t → (i : ℕ) → i < roomsMax
-    → isFree (roomAt t i .standing) ≡ false
-all-taken = refusals.all-taken
-
-pub none-left : (t : List ℕ) → ((i : ℕ) → i < roomsMax → isFree (roomAt t i .standing) ≡ false) → roomsMax ≤ lowestFree t
-none-left = refusals.none-left
+pub only-full : (t text : List ℕ) → whole t ≡ true → openStatus t text ≡ Status.Refused Fault.Full 0 → (i : ℕ) → i < 8
+    → isTaken (roomAt t i .standing) ≡ true
+only-full = refusals.only-full
 
 -- "then 14 after visit 999,999,999;"
-pub then-visits : (t text : List ℕ) → whole t ≡ true → isBad (readJob text .status) ≡ false → lowestFree t < roomsMax
-    → 999999999 ≤ lastIn t → openStatus t text ≡ Status.Refused Fault.Visits 0
-then-visits = opening.no-visit
+pub then-visits : (t text : List ℕ) → whole t ≡ true → isBad (readJob text .status) ≡ false → (i : ℕ) → i < 8
+    → isFree (roomAt t i .standing) ≡ true → 999999999 ≤ lastIn t → openStatus t text ≡ Status.Refused Fault.Visits 0
+then-visits t text e right i l free = opening.no-visit t text e right (refusals.some-left t i l free)
+
+pub only-visits : (t text : List ℕ) → whole t ≡ true → openStatus t text ≡ Status.Refused Fault.Visits 0
+    → 999999999 ≤ lastIn t
+only-visits = refusals.only-last
+
+-- and no refusal else
+pub else-opened : (t text : List ℕ) → whole t ≡ true → isBad (readJob text .status) ≡ false → (i : ℕ) → i < 8
+    → isFree (roomAt t i .standing) ≡ true → lastIn t < 999999999 → openStatus t text ≡ Status.Done
+else-opened t text e right i l free = opening.is-opened t text e right (refusals.some-left t i l free)
 
 -- "other calls, 15 for a slot or visit not open, next after 16,"
 pub then-not-open : (t : List ℕ) (slot visit : ℕ) → whole t ≡ true

@@ -6,7 +6,7 @@ use mathlib.Core.Bool.{Bool, true, false, not, _&&_}
 use mathlib.Core.List.{List, [], _∷_}
 use lib.Seq.{sets}
 use lib.Dec.{eqb, ltb}
-use borrow.Author.Tests.{ne-eqb, lt-ltb, le-ltb}
+use borrow.Author.Tests.{lt-ltb, le-ltb}
 use Rattle.digits.proofs.Cases.{either, same-or}
 use Rattle.faults.specs.declared.Fault.{Fault}
 use Rattle.faults.specs.declared.Status.{Status}
@@ -14,12 +14,13 @@ use Rattle.faults.specs.Checks.{isBad, badUnless, onLine, andThen}
 use Rattle.cells.specs.Cells.{cell, zeros}
 use Rattle.result_form.specs.ResultShows.{showResult}
 use Rattle.visits.proofs.Readings.{next-visit}
-use Rattle.rooms.specs.declared.Room.{Room}
-use Rattle.rooms.specs.Table.{roomsMax, slotFrom, slotSize, lastIn, roomAt, whole}
-use Rattle.rooms.specs.Calls.{lowestFree, nextVisit, openStatus, opened, holds, heldStatus, afterStep}
+use Rattle.room_form.specs.declared.Room.{Room}
+use Rattle.room_form.specs.Table.{roomsMax, slotFrom, slotSize, lastIn, roomAt, whole}
+use Rattle.room_form.specs.Calls.{lowestFree, openStatus, opened, holds, heldStatus, afterStep}
 use Rattle.histories.specs.Histories.{Call, after, afterAll}
-use Rattle.rooms.proofs.Whole.{whole-long}
-use Rattle.rooms.proofs.Visited.{held-at}
+use Rattle.room_form.proofs.Whole.{whole-long}
+use Rattle.room_form.proofs.Visited.{held-at}
+use Rattle.room_form.proofs.Opening.{next-new}
 use Rattle.histories.proofs.After.{close-own, close-other, close-last}
 use Rattle.histories.proofs.Formed.{opened-own, opened-other, opened-last}
 use Rattle.histories.proofs.Formed.{moved-own, moved-other, moved-last}
@@ -79,7 +80,7 @@ module _ (t : List ℕ) (k v : ℕ) (g : Gone t k v) where
         gone = λ l.
             ap (λ (i : ℕ). holds (roomAt (opened t text) i) v) e
             ∙ ap (λ (room : Room). holds room v) (opened-own t text done)
-            ∙ ne-eqb (nextVisit t) v (λ same. omega (arith, same, g .handed));
+            ∙ next-new t v (g .handed);
       }) (λ ne. as-before (opened t text) (omega (arith, last)) (λ l. opened-other t text done k l ne))
 
   step-gone : (slot visit : ℕ) (good : isBad (heldStatus t slot visit) ≡ false)

@@ -9,8 +9,8 @@ use lib.Dec.{eqb, ltb}
 use Rattle.jobs.specs.declared.Job.{Job}
 use Rattle.jobs.specs.declared.Result.{Result}
 use Rattle.result_form.specs.ResultShows.{showResult}
-use Rattle.rooms.specs.Table.{roomsMax, takenRoom, roomAt, whole}
-use Rattle.rooms.specs.Calls.{opened, afterStep, stepped, closed}
+use Rattle.room_form.specs.Table.{roomsMax, takenRoom, roomAt, whole}
+use Rattle.room_form.specs.Calls.{opened, afterStep, stepped, closed}
 
 -- a call with what it shows: a job text; or a slot, a visit and how many bytes its buffer has
 pub data Call : Type 0 where

@@ -28,6 +28,7 @@ use Rattle.run.specs.Job.{runFrom, resultOf, runJob}
 use Rattle.result_form.specs.ResultShows.{showResult}
 use Rattle.promises.specs.ByTwo.{runByTwo}
 use Rattle.promises.proofs.ByTwo as two
+use Rattle.runs.proofs.Results as runs
 use Rattle.promises.proofs.Results as results
 
 module _ (j : Job) (checked : checkJob j ≡ Status.Done) where
@@ -61,7 +62,7 @@ module _ (j : Job) (checked : checkJob j ≡ Status.Done) where
 
     -- the result of such a run has no fault and can be written
     pub run-sound : (a : ℕ) → a ≤ stepsMax → checkResult (resultOf j (runFrom j X a)) ≡ Status.Done
-    run-sound = results.from-checked j checked X (two.box-right j checked x right)
+    run-sound = runs.from-checked j checked X (two.box-right j checked x right)
 
     pub run-short : (a : ℕ) → a ≤ stepsMax → length (showResult (resultOf j (runFrom j X a))) ≤ textMax
     run-short = results.from-short j checked X (two.box-right j checked x right)

@@ -4,9 +4,7 @@ use crate::JOB;
 use crate::JOB_FROM;
 use crate::READING;
 use crate::ROOMS;
-use crate::Room;
 use crate::SLOT;
-use crate::Standing;
 use crate::TABLE;
 use cells::number_at;
 use faults::is_bad;
@@ -18,12 +16,14 @@ use jobs::zero::no_job;
 use jobs::zero::no_result;
 use result_form::ResultRead;
 use result_read::read_result;
+use room_form::Room;
+use room_form::Standing;
 use sizes::VISIT;
 ghost use mathlib.Core.Path.{_≡_};
 ghost use Prim.Native.Nat.{_≤_, _<_};
 ghost use lib.ListN.{length};
-ghost use Rattle.rooms.specs.Table.{roomsMax, slotSize, tableSize, freeRoom, brokenRoom, isVisit, heldBy};
-ghost use Rattle.rooms.specs.Table.{roomOf, roomAt, isWhole, whole};
+ghost use Rattle.room_form.specs.Table.{roomsMax, slotSize, tableSize, freeRoom, brokenRoom, isVisit, heldBy};
+ghost use Rattle.room_form.specs.Table.{roomOf, roomAt, isWhole, whole};
 
 fn free_room() -> Room
     ensures { λ r. ⌜ r ≡ freeRoom ⌝ }

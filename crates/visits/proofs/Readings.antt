@@ -32,7 +32,7 @@ use Rattle.run.specs.Job.{runFrom, resultOf}
 use Rattle.runs.proofs.Runs.{run-count}
 use Rattle.reading.specs.NumberLines.{placed}
 use Rattle.result_form.specs.ResultShows.{live}
-use Rattle.promises.proofs.Results.{from-checked}
+use Rattle.runs.proofs.Results.{from-checked}
 use Rattle.visits.specs.Visits.{openedAs, isFinished, added, nextReading, Stands}
 
 -- the box so far

@@ -1,7 +1,7 @@
 -- `batch::all` is safe and ends: the turns that are left fall.
 use mathlib.Core.Path.{_≡_}
 use lib.ListN.{length}
-use Rattle.rooms.specs.Table.{tableSize}
+use Rattle.room_form.specs.Table.{tableSize}
 use Rattle.batch.specs.Hand.{InHand, inMax, outMax}
 use borrow.Author.Needs.{needs}
 use Rattle.batch.proofs.all.Statement.{statement}

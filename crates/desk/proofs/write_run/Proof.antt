@@ -4,7 +4,7 @@ use mathlib.Core.Path.{_≡_, refl}
 use Rattle.faults.specs.declared.Status.{Status}
 use Rattle.checks.specs.CheckResult.{checkResult}
 use Rattle.run.proofs.JobLaws.{answer-done}
-use Rattle.promises.proofs.Results.{result-checked}
+use Rattle.runs.proofs.Results.{result-checked}
 use Rattle.desk.specs.Desk.{runStatus, runText}
 use Rattle.desk.proofs.Answer.{read-good}
 use Rattle.desk.proofs.write_run.Statement.{statement}

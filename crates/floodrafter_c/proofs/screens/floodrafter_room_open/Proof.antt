@@ -2,8 +2,8 @@
 use Prim.Native.Nat.{ℕ}
 use mathlib.Core.Path.{_≡_, refl, _∙_}
 use Rattle.faults.specs.declared.Status.{Status}
-use Rattle.rooms.specs.declared.Opened as rooms
-use Rattle.rooms.specs.Calls.{openAnswer}
+use Rattle.room_form.specs.declared.Opened as rooms
+use Rattle.room_form.specs.Calls.{openAnswer}
 use Rattle.floodrafter_c.specs.Screens.{openedBy}
 use borrow.Author.Needs.{needs}
 use Rattle.floodrafter_c.proofs.screens.floodrafter_room_open.Statement.{statement}

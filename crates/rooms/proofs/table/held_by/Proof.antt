@@ -1,6 +1,6 @@
 -- `rooms::table::held_by` meets its contract.
 use mathlib.Core.Path.{sym, _∙_}
-use Rattle.rooms.specs.Table.{heldBy}
+use Rattle.room_form.specs.Table.{heldBy}
 use borrow.Author.Needs.{needs}
 use Rattle.rooms.proofs.table.held_by.Statement.{statement}
 use Rattle.rooms.proofs.table.held_by.Tie as tie

@@ -1,7 +1,7 @@
 -- `rooms::table::is_visit` meets its contract, test by test.
 use mathlib.Core.Path.{refl}
 use borrow.Author.Tests.{eq-eqb, ne-eqb, le-leb, lt-leb}
-use Rattle.rooms.specs.Table.{isVisit}
+use Rattle.room_form.specs.Table.{isVisit}
 use Rattle.rooms.proofs.table.is_visit.Statement.{statement}
 use Rattle.rooms.proofs.table.is_visit.Tie as tie
 

@@ -6,9 +6,9 @@ use mathlib.Core.Bool.{true}
 use borrow.Author.Tests.{not-true, not-false}
 use Rattle.lists.specs.Loops.{allB}
 use Rattle.lists.proofs.All.{all-none, all-more, all-stop, all-done}
-use Rattle.rooms.specs.declared.Room.{Room}
-use Rattle.rooms.specs.Table.{roomsMax, roomAt, isWhole}
-use Rattle.rooms.proofs.Whole.{too-few, too-many, by-rooms}
+use Rattle.room_form.specs.declared.Room.{Room}
+use Rattle.room_form.specs.Table.{roomsMax, roomAt, isWhole}
+use Rattle.room_form.proofs.Whole.{too-few, too-many, by-rooms}
 use borrow.Author.Needs.{needs}
 use Rattle.rooms.proofs.table.is_whole.Statement.{statement}
 use Rattle.rooms.proofs.table.is_whole.Tie as tie

@@ -1,6 +1,6 @@
 -- `rooms::table::room_at` meets its contract.
-use Rattle.rooms.specs.Table.{slotFrom, slotSize}
-use Rattle.rooms.proofs.Slots.{cut-part}
+use Rattle.room_form.specs.Table.{slotFrom, slotSize}
+use Rattle.cells.proofs.Parts.{cut-part}
 use borrow.Author.Needs.{needs}
 use Rattle.rooms.proofs.table.room_at.Statement.{statement}
 use Rattle.rooms.proofs.table.room_at.Tie as tie

@@ -1,8 +1,8 @@
 -- `rooms::table::room_of` meets its contract.
 use mathlib.Core.Path.{refl, _∙_}
 use borrow.Author.Tests.{eq-eqb, ne-eqb, le-leb, lt-leb}
-use Rattle.rooms.specs.Table.{roomOf}
-use Rattle.rooms.proofs.Slots.{cut-told}
+use Rattle.room_form.specs.Table.{roomOf}
+use Rattle.cells.proofs.Parts.{cut-told}
 use borrow.Author.Needs.{needs}
 use Rattle.rooms.proofs.table.room_of.Statement.{statement}
 use Rattle.rooms.proofs.table.room_of.Tie as tie

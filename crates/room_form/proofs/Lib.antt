@@ -1,0 +1,7 @@
+pub mod Lowest
+pub mod Written
+pub mod Whole
+pub mod PutReading
+pub mod Visited
+pub mod Opening
+pub mod Stepping

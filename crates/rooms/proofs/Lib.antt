@@ -1,8 +1,0 @@
-pub mod Slots
-pub mod Lowest
-pub mod Written
-pub mod Whole
-pub mod PutReading
-pub mod Visited
-pub mod Opening
-pub mod Stepping
