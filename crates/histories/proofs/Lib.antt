@@ -6,5 +6,6 @@ pub mod Isolated
 pub mod Histories
 pub mod Stale
 pub mod Own
+pub mod PerVisit
 pub mod Refusals
 pub mod RequestP12

@@ -18,7 +18,7 @@ use Rattle.visits.proofs.Steps.{steps-add}
 use Rattle.room_form.specs.declared.Room.{Room}
 use Rattle.room_form.specs.Table.{roomsMax, takenRoom, roomAt}
 use Rattle.room_form.specs.Calls.{isFree, firstFrom, lowestFree, nextVisit, openStatus, opened}
-use Rattle.histories.specs.Histories.{Call, afterAll, Holds, ownSteps, Stays}
+use Rattle.histories.specs.Histories.{Call, afterAll, Holds, ownSteps, Stays, readsAfter}
 use Rattle.histories.proofs.Formed.{open-read}
 use Rattle.histories.proofs.Histories.{isolated, opened-holds}
 
@@ -69,8 +69,7 @@ two-histories h g t u k v i w j r first second stays remains same =
 pub same-readings : (h g : List Call) (t u text : List ℕ) → openStatus t text ≡ Status.Done
     → openStatus u text ≡ Status.Done → Stays (lowestFree t) (nextVisit t) h → Stays (lowestFree u) (nextVisit u) g
     → ownSteps (lowestFree t) (nextVisit t) (opened t text) h ≡ ownSteps (lowestFree u) (nextVisit u) (opened u text) g
-    → withVisit (roomAt (afterAll (opened t text) h) (lowestFree t) .reading) 0
-    ≡ withVisit (roomAt (afterAll (opened u text) g) (lowestFree u) .reading) 0
+    → withVisit (readsAfter t text h) 0 ≡ withVisit (readsAfter u text g) 0
 same-readings h g t u text first second stays remains same =
     ap (λ (room : Room). withVisit (room .reading) 0) (own-reading t text first h stays .room)
     ∙ ap (λ (calls : ℕ). withVisit (readingOf 0 job (runFrom job (startOf job) (min calls (job .steps)))) 0) same

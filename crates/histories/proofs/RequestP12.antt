@@ -5,7 +5,7 @@
 use Prim.Native.Nat.{ℕ, _+_, _≤_, _<_, min}
 use mathlib.Core.Path.{_≡_, ap}
 use mathlib.Core.Bool.{true, false}
-use mathlib.Core.List.{List}
+use mathlib.Core.List.{List, _++_}
 use mathlib.Core.Logic.{_⊎_}
 use lib.ListN.{length}
 use Rattle.faults.specs.declared.Fault.{Fault}
@@ -19,19 +19,23 @@ use Rattle.job_form.specs.JobForm.{readJob}
 use Rattle.result_form.specs.ResultShows.{showResult}
 use Rattle.result_form.specs.ResultForm.{withVisit}
 use Rattle.run.specs.Job.{outcomeOf}
-use Rattle.promises.specs.Jobs.{jobRun}
+use Rattle.step.specs.Values.{startOf}
+use Rattle.runs.specs.Boxes.{BoxInside}
+use Rattle.promises.specs.Claims.{Point, Lies, Same}
+use Rattle.promises.specs.Jobs.{jobRun, Solves}
 use Rattle.visits.specs.Visits.{readingOf, nextReading, times, openedAs}
 use Rattle.visits.proofs.Steps as steps
 use Rattle.room_form.specs.Table.{tableSize, freeRoom, lastIn, roomAt, whole}
 use Rattle.room_form.specs.Calls.{clearStatus, cleared, isFree, lowestFree, nextVisit, openStatus, opened, isTaken}
 use Rattle.room_form.specs.Calls.{heldStatus, afterStep, finished, stepped, closed}
-use Rattle.histories.specs.Histories.{Call, after, afterAll, Holds, ownSteps, Stays}
+use Rattle.histories.specs.Histories.{Call, after, afterAll, Holds, ownSteps, Stays, readsAfter, boxAfter}
 use Rattle.room_form.proofs.Visited.{HeldAt}
 use Rattle.room_form.proofs.Opening as opening
 use Rattle.histories.proofs.Refusals as refusals
 use Rattle.histories.proofs.Formed as formed
 use Rattle.histories.proofs.Isolated as isolated
 use Rattle.histories.proofs.Own as own
+use Rattle.histories.proofs.PerVisit as per-visit
 use Rattle.histories.proofs.Stale as stale
 
 -- ---- opening and closing
@@ -102,8 +106,7 @@ own-calls-only = own.own-reading
 pub own-job-only : (h g : List Call) (t u text : List ℕ) → openStatus t text ≡ Status.Done
     → openStatus u text ≡ Status.Done → Stays (lowestFree t) (nextVisit t) h → Stays (lowestFree u) (nextVisit u) g
     → ownSteps (lowestFree t) (nextVisit t) (opened t text) h ≡ ownSteps (lowestFree u) (nextVisit u) (opened u text) g
-    → withVisit (roomAt (afterAll (opened t text) h) (lowestFree t) .reading) 0
-    ≡ withVisit (roomAt (afterAll (opened u text) g) (lowestFree u) .reading) 0
+    → withVisit (readsAfter t text h) 0 ≡ withVisit (readsAfter u text g) 0
 own-job-only = own.same-readings
 
 -- two histories that agree on a holder's job, reading and own step calls give equal readings
@@ -112,8 +115,38 @@ pub two-histories : (h g : List Call) (t u : List ℕ) (k v i w : ℕ) (j : Job)
     → roomAt (afterAll t h) k ≡ roomAt (afterAll u g) i
 two-histories = own.two-histories
 
--- "Under that same condition demand 3 .. read[s] per visit.": promises/proofs/Demand3.antt is about `jobRun`, which is
--- what a visit reads as
+-- ---- "Under that same condition demand 3 .. read[s] per visit."
+-- By `own-calls-only` a visit reads as the run `jobRun` of its job, of which promises/proofs/Demand3.antt speaks: what
+-- that says of two allowances is here said of two histories, one of which goes on from the other.
+
+module _ (t text : List ℕ) (done : openStatus t text ≡ Status.Done) where
+  abbrev j : Job
+  j = readJob text .job
+
+  abbrev n : ℕ
+  n = j .head .n
+
+  module _ (h g : List Call) (stays : Stays (lowestFree t) (nextVisit t) (h ++ g)) where
+    -- "More steps never unsay an answer. .. The larger allowance's box lies in the smaller's,"
+    pub later-inside : BoxInside n (boxAfter t text (h ++ g)) (boxAfter t text h)
+    later-inside = per-visit.later-inside t text done h g stays
+
+    -- "and a "none" or "unique" from the smaller stays, with its box.": with its steps too, and so does a "stalled"
+    pub decided-stays : (readsAfter t text h .verdict ≡ Verdict.Spent → ⊥) → readsAfter t text (h ++ g) ≡ readsAfter t text h
+    decided-stays = per-visit.decided-stays t text done h g stays
+
+  module _ (h : List Call) (stays : Stays (lowestFree t) (nextVisit t) h) where
+    -- "So no exact fraction zero of the starting box is ever lost,"
+    pub zero-kept : (p : Point) → Solves j p → Lies n p (startOf j) → Lies n p (boxAfter t text h)
+    zero-kept = per-visit.zero-kept t text done h stays
+
+    pub none-no-zero : readsAfter t text h .verdict ≡ Verdict.None → (p : Point) → Solves j p → Lies n p (startOf j) → ⊥
+    none-no-zero = per-visit.none-no-zero t text done h stays
+
+    -- "and "unique" means there is at most one."
+    pub at-most-one : readsAfter t text h .verdict ≡ Verdict.Unique → (p r : Point) → Solves j p → Solves j r
+        → Lies n p (startOf j) → Lies n r (startOf j) → Same n p r
+    at-most-one = per-visit.at-most-one t text done h stays
 
 -- ---- refusals
 

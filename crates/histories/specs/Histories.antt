@@ -6,11 +6,14 @@ use mathlib.Core.Bool.{Bool, true, false, cond, not, _&&_}
 use mathlib.Core.List.{List, [], _∷_, foldl}
 use lib.ListN.{length}
 use lib.Dec.{eqb, ltb}
+use Rattle.intervals.specs.declared.Interval.{Interval}
 use Rattle.jobs.specs.declared.Job.{Job}
 use Rattle.jobs.specs.declared.Result.{Result}
+use Rattle.step.specs.Values.{boxOf}
+use Rattle.job_form.specs.JobForm.{readJob}
 use Rattle.result_form.specs.ResultShows.{showResult}
 use Rattle.room_form.specs.Table.{roomsMax, takenRoom, roomAt, whole}
-use Rattle.room_form.specs.Calls.{opened, afterStep, stepped, closed}
+use Rattle.room_form.specs.Calls.{lowestFree, opened, afterStep, stepped, closed}
 
 -- a call with what it shows: a job text; or a slot, a visit and how many bytes its buffer has
 pub data Call : Type 0 where
@@ -62,3 +65,14 @@ Keeps k v (Call.closes slot visit) = shows k v slot visit ≡ false
 unfoldable pub Stays : ℕ → ℕ → List Call → Type 0
 Stays k v [] = Unit {0}
 Stays k v (c ∷ h) = Keeps k v c × Stays k v h
+
+-- ---- from a visit's opening on
+
+-- what it reads as after a history of calls
+abbrev pub readsAfter : List ℕ → List ℕ → List Call → Result
+readsAfter t text h = roomAt (afterAll (opened t text) h) (lowestFree t) .reading
+
+-- and the box of that
+abbrev pub boxAfter : List ℕ → List ℕ → List Call → List Interval
+boxAfter t text h =
+    boxOf (readJob text .job .head .n) (record { lo = readsAfter t text h .lo; hi = readsAfter t text h .hi })

@@ -34,20 +34,20 @@ ghost use Rattle.room_form.specs.Table.{roomsMax, jobMost, readingMost, tableSi
 ghost use Rattle.room_form.specs.Calls.{clearStatus, cleared, isFree, lowestFree, openStatus, openAnswer, nextVisit};
 ghost use Rattle.room_form.specs.Calls.{withVisitor, opened, isTaken, holds, heldStatus, afterStep, stepped, closed};
 
-// The sizes of docs/ROOMS.md.
-pub const ROOMS: usize = 8;
+// The sizes of docs/ROOMS.md: each text stands behind its length, a number of four bytes.
+const ROOMS: usize = 8;
 
-pub const READING: usize = 252;
+const READING: usize = 252;
 
-pub const JOB_FROM: usize = 256;
+const JOB: usize = 2044;
 
-pub const JOB: usize = 2044;
+const JOB_FROM: usize = 4 + READING;
 
-pub const SLOT: usize = 2304;
+const SLOT: usize = JOB_FROM + 4 + JOB;
 
-pub const HEAD: usize = 4;
+const HEAD: usize = 4;
 
-pub const TABLE: usize = 18436;
+pub const TABLE: usize = HEAD + ROOMS * SLOT;
 
 // All rooms are free, and visits count from 1 again.
 pub fn clear(table: &mut [u8]) -> Status

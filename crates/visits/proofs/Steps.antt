@@ -62,7 +62,7 @@ module _ (j : Job) (checked : checkJob j ≡ Status.Done) (visit : ℕ) where
   start-back = box-back n (accepted .few) _ refl
 
   -- the box of a reading is the one that the run left
-  box-so-far : (a : ℕ) → boxOf n (record { lo = reads a .lo; hi = reads a .hi }) ≡ ran a .sides
+  pub box-so-far : (a : ℕ) → boxOf n (record { lo = reads a .lo; hi = reads a .hi }) ≡ ran a .sides
   unfolding resultOf
   box-so-far a = run-back n (equationOf j) (inverseOf j) (accepted .few) a 0 (startOf j) start-back
 
