@@ -29,7 +29,8 @@ module _ (bs : List ℕ) (a : ℕ) (v : ℕ) (rest : List ℕ) where
       let byte : (i : ℕ) → i < 4 → getD (sets bs a xs) (a + i) 0 ≡ getD xs i 0 =
       λ i m. byte-set bs a xs i (omega arith) (omega arith) in
       let first : a + 0 ≡ a = omega arith in
-      rw (rw first at (byte 0 (omega arith)), byte 1 (omega arith), byte 2 (omega arith), byte 3 (omega arith)) (four v l)
+      rw (rw first at (byte 0 (omega arith)), byte 1 (omega arith), byte 2 (omega arith), byte 3 (omega arith))
+      (four v l)
 
 pub number-alone : (bs : List ℕ) (a v : ℕ) → a + 4 ≤ length bs → v < numberEnd
     → numberAt (sets bs a (numberBytes v)) a ≡ v
@@ -93,7 +94,8 @@ pub zeros-length : (n : ℕ) → length (zeros n) ≡ n
 unfolding zeros
 zeros-length n = length-replicate {A = ℕ} n 0
 
-pub wiped-number : (bs : List ℕ) (b n i : ℕ) → b + n ≤ length bs → i + 4 ≤ n → numberAt (sets bs b (zeros n)) (b + i) ≡ 0
+pub wiped-number : (bs : List ℕ) (b n i : ℕ) → b + n ≤ length bs → i + 4 ≤ n
+    → numberAt (sets bs b (zeros n)) (b + i) ≡ 0
 unfolding numberAt zeros
 wiped-number bs b n i h l =
     let byte : (k : ℕ) → k < 4 → getD (sets bs b (zeros n)) (b + i + k) 0 ≡ 0 =

@@ -35,7 +35,8 @@ sets-swap bs i t p (x ∷ xs) h =
     ∙ sets-swap (set bs p x) i t (suc p) xs (omega arith)
 
 -- its length behind it
-pub length-put : (bs : List ℕ) (a : ℕ) (t : List ℕ) → sets (sets bs (a + 4) t) a (numberBytes (length t)) ≡ sets bs a (cell t)
+pub length-put : (bs : List ℕ) (a : ℕ) (t : List ℕ)
+    → sets (sets bs (a + 4) t) a (numberBytes (length t)) ≡ sets bs a (cell t)
 unfolding numberBytes
 length-put bs a t =
     sets-swap bs (a + 4) t a (numberBytes (length t)) (omega arith) ∙ sym (sets-append bs a (numberBytes (length t)) t)

@@ -1,5 +1,5 @@
--- The calls on the table of rooms, of the library and for C: any two allowed answers, and every byte of the table and of
--- the lent buffer, are equal.
+-- The calls on the table of rooms, of the library and for C: any two allowed answers, and every byte of the table and
+-- of the lent buffer, are equal.
 use mathlib.Core.Path.{_≡_, sym, _∙_}
 use denote.Ref.{now}
 use denote.Triple.Clauses.{AtExit}
@@ -40,13 +40,15 @@ open-settled κs a r r' s s' p q = (p .0 ∙ sym (q .0), p .1 ∙ sym (q .1))
 
 pub step-settled : (κs : Lfts 2) (a : Dens κs step-kinds.ps) (r r' : resT step-kinds.r κs .Denot)
     (s s' : AtExit (endedOf 2 step-kinds.ps step-kinds.r) κs)
-    → step-call.Post κs a r s → step-call.Post κs a r' s' → (r ≡ r') × (now (s .0) ≡ now (s' .0)) × (now (s .1 .1 .1 .0) ≡ now (s' .1 .1 .1 .0))
+    → step-call.Post κs a r s → step-call.Post κs a r' s'
+    → (r ≡ r') × (now (s .0) ≡ now (s' .0)) × (now (s .1 .1 .1 .0) ≡ now (s' .1 .1 .1 .0))
 step-settled κs a r r' s s' p q =
     let told = written.settled (p .0) (q .0) in (told .0, p .1 ∙ sym (q .1), told .1)
 
 pub reading-settled : (κs : Lfts 2) (a : Dens κs reading-kinds.ps) (r r' : resT reading-kinds.r κs .Denot)
     (s s' : AtExit (endedOf 2 reading-kinds.ps reading-kinds.r) κs)
-    → reading-call.Post κs a r s → reading-call.Post κs a r' s' → (r ≡ r') × (now (s .1 .1 .1 .0) ≡ now (s' .1 .1 .1 .0))
+    → reading-call.Post κs a r s → reading-call.Post κs a r' s'
+    → (r ≡ r') × (now (s .1 .1 .1 .0) ≡ now (s' .1 .1 .1 .0))
 reading-settled κs a r r' s s' p q = written.settled p q
 
 pub close-settled : (κs : Lfts 1) (a : Dens κs close-kinds.ps) (r r' : resT close-kinds.r κs .Denot)
@@ -66,13 +68,16 @@ open-for-c-settled κs a r r' s s' p q = (p .0 ∙ sym (q .0), p .1 ∙ sym (q .
 
 pub step-for-c-settled : (κs : Lfts 2) (a : Dens κs step-for-c-kinds.ps) (r r' : resT step-for-c-kinds.r κs .Denot)
     (s s' : AtExit (endedOf 2 step-for-c-kinds.ps step-for-c-kinds.r) κs)
-    → step-for-c.Post κs a r s → step-for-c.Post κs a r' s' → (r ≡ r') × (now (s .0) ≡ now (s' .0)) × (now (s .1 .1 .1 .0) ≡ now (s' .1 .1 .1 .0))
+    → step-for-c.Post κs a r s → step-for-c.Post κs a r' s'
+    → (r ≡ r') × (now (s .0) ≡ now (s' .0)) × (now (s .1 .1 .1 .0) ≡ now (s' .1 .1 .1 .0))
 step-for-c-settled κs a r r' s s' p q =
     let told = gives.settled (p .0) (q .0) in (told .0, p .1 ∙ sym (q .1), told .1)
 
-pub reading-for-c-settled : (κs : Lfts 2) (a : Dens κs reading-for-c-kinds.ps) (r r' : resT reading-for-c-kinds.r κs .Denot)
+pub reading-for-c-settled : (κs : Lfts 2) (a : Dens κs reading-for-c-kinds.ps)
+    (r r' : resT reading-for-c-kinds.r κs .Denot)
     (s s' : AtExit (endedOf 2 reading-for-c-kinds.ps reading-for-c-kinds.r) κs)
-    → reading-for-c.Post κs a r s → reading-for-c.Post κs a r' s' → (r ≡ r') × (now (s .1 .1 .1 .0) ≡ now (s' .1 .1 .1 .0))
+    → reading-for-c.Post κs a r s → reading-for-c.Post κs a r' s'
+    → (r ≡ r') × (now (s .1 .1 .1 .0) ≡ now (s' .1 .1 .1 .0))
 reading-for-c-settled κs a r r' s s' p q = gives.settled p q
 
 pub close-for-c-settled : (κs : Lfts 1) (a : Dens κs close-for-c-kinds.ps) (r r' : resT close-for-c-kinds.r κs .Denot)

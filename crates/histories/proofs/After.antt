@@ -27,7 +27,8 @@ use Rattle.room_form.proofs.Visited.{Visited, visited-room, are-together}
 use Rattle.histories.proofs.Free.{is-free, room-later}
 use Rattle.room_form.proofs.PutReading.{reading-short}
 use Rattle.room_form.proofs.Opening.{job-short}
-use Rattle.histories.proofs.Kept.{other-slot, own-slot, same-last, head-set, slot-long, read-again, visitor-there}
+use Rattle.histories.proofs.Kept.{other-slot, own-slot, same-last, head-set, slot-long, read-again}
+use Rattle.histories.proofs.Kept.{visitor-there}
 
 -- a slot's first byte
 first-byte : (k : ℕ) → slotFrom k + 0 ≡ slotFrom k
@@ -171,7 +172,8 @@ module _ (t text : List ℕ) (k : ℕ) (long : tableSize ≤ length t) (live-slo
   pub open-own : roomAt after k ≡ takenRoom j r
   open-own =
       ap₂ roomOf open-last own-bytes
-      ∙ visited-room (visitor-there (slotIn t k) j r (slot-long t k long live-slot) right (opened-live j checked visit) text
+      ∙ visited-room
+      (visitor-there (slotIn t k) j r (slot-long t k long live-slot) right (opened-live j checked visit) text
       (job.whole text read) belongs)
 
   pub open-other : (i : ℕ) → (i ≡ k → ⊥) → isWhole (roomAt t i .standing) ≡ true → roomAt after i ≡ roomAt t i

@@ -162,8 +162,8 @@ module _ (t : List ℕ) (slot visit : ℕ) (good : isBad (heldStatus t slot visi
 
   pub moved-own : roomAt moved slot ≡ takenRoom j q
   moved-own =
-      step-own t slot (whole-long t e) inside j r q (at-visited t slot visit good) (next-stands j r stands .reading) alive
-      next-visits
+      step-own t slot (whole-long t e) inside j r q (at-visited t slot visit good) (next-stands j r stands .reading)
+      alive next-visits
 
   pub moved-other : (i : ℕ) → (i ≡ slot → ⊥) → roomAt moved i ≡ roomAt t i
   moved-other =

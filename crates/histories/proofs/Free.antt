@@ -34,7 +34,8 @@ not-free last j r = go (isBad (j .status)) (isBad (r .status)) (isVisit last (j 
 pub no-length : (last : ℕ) (s : List ℕ) → isFree (roomOf last s .standing) ≡ true → numberAt s jobFrom ≡ 0
 unfolding roomOf
 no-length last s e =
-    go (eqb (numberAt s jobFrom) 0) (leb (numberAt s readingFrom) readingMost && leb (numberAt s jobFrom) jobMost) refl e
+    go (eqb (numberAt s jobFrom) 0) (leb (numberAt s readingFrom) readingMost && leb (numberAt s jobFrom) jobMost)
+    refl e
   where
     go : (a b : Bool) → eqb (numberAt s jobFrom) 0 ≡ a
         → isFree (cond a freeRoom (cond b
@@ -60,7 +61,8 @@ pub taken-room : (last : ℕ) (s : List ℕ) → isTaken (roomOf last s .standin
 taken-room last s e = visited-room (room-visited last s e)
 
 -- a visit stays one as later ones are handed out
-pub visited-later : {last later : ℕ} {s : List ℕ} {j : _} {r : _} → last ≤ later → Visited last s j r → Visited later s j r
+pub visited-later : {last later : ℕ} {s : List ℕ} {j : _} {r : _} → last ≤ later → Visited last s j r
+    → Visited later s j r
 visited-later {last} {later} {s} {j} {r} h v =
     let with-last = together last j r (v .visit) in
     record {

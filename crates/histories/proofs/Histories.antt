@@ -78,12 +78,14 @@ isolated [] t k v j r holds stays = holds
 isolated (c ∷ h) t k v j r holds stays =
     subst (Holds (afterAll t (c ∷ h)) k v j)
     (times-add (ownStep k v t c) (ownSteps k v (after t c) h) (nextReading j) r)
-    (isolated h (after t c) k v j (times (ownStep k v t c) (nextReading j) r) (one t k v j r holds c (stays .0)) (stays .1))
+    (isolated h (after t c) k v j (times (ownStep k v t c) (nextReading j) r) (one t k v j r holds c (stays .0))
+    (stays .1))
 
 -- ---- from its opening on
 
 pub opened-holds : (t text : List ℕ) → openStatus t text ≡ Status.Done
-    → Holds (opened t text) (lowestFree t) (nextVisit t) (readJob text .job) (openedAs (nextVisit t) (readJob text .job))
+    → Holds (opened t text) (lowestFree t) (nextVisit t) (readJob text .job)
+    (openedAs (nextVisit t) (readJob text .job))
 opened-holds t text done = record {
   is-whole = open-formed t text done;
   inside = open-slot t text done;

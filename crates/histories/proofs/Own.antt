@@ -37,7 +37,8 @@ module _ (t text : List ℕ) (done : openStatus t text ≡ Status.Done) (h : Lis
   abbrev calls : ℕ
   calls = ownSteps k v (opened t text) h
 
-  pub own-reading : Holds (afterAll (opened t text) h) k v j (readingOf v j (runFrom j (startOf j) (min calls (j .steps))))
+  pub own-reading : Holds (afterAll (opened t text) h) k v j
+      (readingOf v j (runFrom j (startOf j) (min calls (j .steps))))
   own-reading =
       subst (Holds (afterAll (opened t text) h) k v j) (steps-add j (read-checked text (open-read t text done)) v calls)
       (isolated h (opened t text) k v j _ (opened-holds t text done) stays)
@@ -65,7 +66,8 @@ two-histories h g t u k v i w j r first second stays remains same =
     ∙ ap (λ (n : ℕ). takenRoom j (times n (nextReading j) r)) same
     ∙ sym (isolated g u i w j r second remains .room)
 
--- two visits of one job text, each on its table and in its slot, after as many own step calls: alike but for their numbers
+-- two visits of one job text, each on its table and in its slot, after as many own step calls: alike but for their
+-- numbers
 pub same-readings : (h g : List Call) (t u text : List ℕ) → openStatus t text ≡ Status.Done
     → openStatus u text ≡ Status.Done → Stays (lowestFree t) (nextVisit t) h → Stays (lowestFree u) (nextVisit u) g
     → ownSteps (lowestFree t) (nextVisit t) (opened t text) h ≡ ownSteps (lowestFree u) (nextVisit u) (opened u text) g

@@ -45,7 +45,8 @@ close-frees t slot visit done =
     let at = held-at t slot visit (ap isBad done) in
     rw done (close-own t slot (whole-long t (at .is-whole)) (at .inside))
 
-finished-unmoved : (t : List ℕ) (slot visit space : ℕ) → finished (roomAt t slot) ≡ true → stepped t slot visit space ≡ t
+finished-unmoved : (t : List ℕ) (slot visit space : ℕ) → finished (roomAt t slot) ≡ true
+    → stepped t slot visit space ≡ t
 unfolding stepped
 finished-unmoved t slot visit space e =
     rw e (go (isBad (heldStatus t slot visit)) (ltb space (length (showResult (afterStep t slot)))))
@@ -70,7 +71,8 @@ pub clear-done : (t : List ℕ) → tableSize ≤ length t → clearStatus t ≡
 unfolding badUnless onLine
 clear-done t long = rw (le-leb tableSize (length t) long) refl
 
-pub held-no-table : (t : List ℕ) (slot visit : ℕ) → whole t ≡ false → heldStatus t slot visit ≡ Status.Refused Fault.Table 0
+pub held-no-table : (t : List ℕ) (slot visit : ℕ) → whole t ≡ false
+    → heldStatus t slot visit ≡ Status.Refused Fault.Table 0
 unfolding badUnless onLine andThen
 held-no-table t slot visit e = rw e refl
 
@@ -135,7 +137,8 @@ taken-not-free Standing.Free e = sym e
 taken-not-free Standing.Taken e = refl
 taken-not-free Standing.Broken e = refl
 
-pub none-left : (t : List ℕ) → ((i : ℕ) → i < roomsMax → isTaken (roomAt t i .standing) ≡ true) → roomsMax ≤ lowestFree t
+pub none-left : (t : List ℕ) → ((i : ℕ) → i < roomsMax → isTaken (roomAt t i .standing) ≡ true)
+    → roomsMax ≤ lowestFree t
 none-left t taken =
     let k = lowestFree t in
     either k roomsMax
@@ -162,7 +165,8 @@ only-last t text e bad =
 -- a slot that is free leaves a lowest one
 pub some-left : (t : List ℕ) (i : ℕ) → i < roomsMax → isFree (roomAt t i .standing) ≡ true → lowestFree t < roomsMax
 some-left t i l free =
-    either (lowestFree t) roomsMax (λ some. some) (λ full. absurd (true≢false (sym free ∙ lower-taken t i (omega arith))))
+    either (lowestFree t) roomsMax (λ some. some)
+    (λ full. absurd (true≢false (sym free ∙ lower-taken t i (omega arith))))
 
 -- ---- "No refusal changes the table."
 

@@ -1,4 +1,4 @@
--- Request P12, "Eight rooms, slots used again". Only statements, each proved by one line from the files beside this one.
+-- Request P12, "Eight rooms, slots used again". Only statements, each proved by one line from the files beside this.
 -- What each call answers, and every byte of the table and of its buffer after it, is its contract
 -- (rooms/src/lib.rt over room_form/specs/Calls.antt). Histories are over specs/Histories.antt. The visit line of a
 -- result is in promises/proofs/RequestP12.antt. Fault.Full is 13, Visits 14, NotOpen 15, Table 16.
@@ -92,7 +92,8 @@ finished-stays = refusals.finished-stays
 
 -- "between opening and closing a holder's verdict, box and steps depend on its own job and calls only, its own calls
 -- being those that show its slot and visit and aren't refused": after any history in which its visit is not closed it
--- reads as the run of its own job with so many steps as its own step calls, and "the answer of one run [reads] per visit"
+-- reads as the run of its own job with so many steps as its own step calls, and "the answer of one run [reads] per
+-- visit"
 pub own-calls-only : (t text : List ℕ) → openStatus t text ≡ Status.Done → (h : List Call)
     → Stays (lowestFree t) (nextVisit t) h
     → Holds (afterAll (opened t text) h) (lowestFree t) (nextVisit t) (readJob text .job)
@@ -132,7 +133,8 @@ module _ (t text : List ℕ) (done : openStatus t text ≡ Status.Done) where
     later-inside = per-visit.later-inside t text done h g stays
 
     -- "and a "none" or "unique" from the smaller stays, with its box.": with its steps too, and so does a "stalled"
-    pub decided-stays : (readsAfter t text h .verdict ≡ Verdict.Spent → ⊥) → readsAfter t text (h ++ g) ≡ readsAfter t text h
+    pub decided-stays : (readsAfter t text h .verdict ≡ Verdict.Spent → ⊥)
+        → readsAfter t text (h ++ g) ≡ readsAfter t text h
     decided-stays = per-visit.decided-stays t text done h g stays
 
   module _ (h : List Call) (stays : Stays (lowestFree t) (nextVisit t) h) where
@@ -161,7 +163,8 @@ clear-else = refusals.clear-done
 pub open-sixteen : (t text : List ℕ) → whole t ≡ false → openStatus t text ≡ Status.Refused Fault.Table 0
 open-sixteen = opening.no-table
 
-pub held-sixteen : (t : List ℕ) (slot visit : ℕ) → whole t ≡ false → heldStatus t slot visit ≡ Status.Refused Fault.Table 0
+pub held-sixteen : (t : List ℕ) (slot visit : ℕ) → whole t ≡ false
+    → heldStatus t slot visit ≡ Status.Refused Fault.Table 0
 held-sixteen = refusals.held-no-table
 
 pub only-sixteen : (t text : List ℕ) → whole t ≡ true → openStatus t text ≡ Status.Refused Fault.Table 0 → ⊥

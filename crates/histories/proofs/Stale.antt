@@ -47,12 +47,15 @@ gone-refused t k v g = by (whole t) refl
     by : (b : Bool) → whole t ≡ b → isBad (heldStatus t k v) ≡ true
     by false e = rw e refl
     by true e =
-        status-is t k v e ∙ either k roomsMax (λ l. rw (lt-ltb k roomsMax l, g .gone l) refl) (λ l. rw (le-ltb k roomsMax l) refl)
+        status-is t k v e
+        ∙ either k roomsMax (λ l. rw (lt-ltb k roomsMax l, g .gone l) refl) (λ l. rw (le-ltb k roomsMax l) refl)
 
 refused-gone : (t : List ℕ) (k v : ℕ) → whole t ≡ true → v ≤ lastIn t → isBad (heldStatus t k v) ≡ true → Gone t k v
 refused-gone t k v e h bad = record {
   handed = h;
-  gone = λ l. not-not _ (sym (ap (λ (b : Bool). not (b && holds (roomAt t k) v)) (lt-ltb k roomsMax l)) ∙ sym (status-is t k v e) ∙ bad);
+  gone = λ l.
+      not-not _
+      (sym (ap (λ (b : Bool). not (b && holds (roomAt t k) v)) (lt-ltb k roomsMax l)) ∙ sym (status-is t k v e) ∙ bad);
 }
   where
     not-not : (b : Bool) → not b ≡ true → b ≡ false
@@ -112,7 +115,8 @@ module _ (t : List ℕ) (k v : ℕ) (g : Gone t k v) where
   one-gone : (c : Call) → Is (after t c)
   unfolding after
   one-gone (Call.opens text) = open-cases t text Is g (open-gone text)
-  one-gone (Call.steps slot visit space) = step-cases t slot visit Is g space (λ good fits left. step-gone slot visit good)
+  one-gone (Call.steps slot visit space) =
+      step-cases t slot visit Is g space (λ good fits left. step-gone slot visit good)
   one-gone (Call.reads slot visit space) = g
   one-gone (Call.closes slot visit) = close-cases t slot visit Is g (close-gone slot visit)
 

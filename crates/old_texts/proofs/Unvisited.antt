@@ -27,7 +27,8 @@ use Rattle.reading.proofs.Narrower.{read-lines}
 use Rattle.lines.specs.Lines.{numberOf, visitOf, verdictOf, misspelled}
 use Rattle.lines.specs.Texts.{verdictText}
 use Rattle.lines.proofs.Words.{verdict-told}
-use Rattle.result_form.specs.ResultForm.{withNumber, withVerdict, leaves, resultSays, resultForm, resultAnswer, readResult}
+use Rattle.result_form.specs.ResultForm.{withNumber, withVerdict, leaves, resultSays, resultForm, resultAnswer}
+use Rattle.result_form.specs.ResultForm.{readResult}
 use Rattle.old_texts.specs.Old.{resultRefused}
 use Rattle.old_texts.specs.Unvisited.{unvisitedSays, unvisitedForm}
 

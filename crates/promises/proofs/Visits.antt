@@ -25,7 +25,8 @@ alone j = go (checkJob j)
 
 pub fine-exactly : (v : ℕ) → (visitCheck v ≡ Finding.Fine) ↔ (v ≤ visitMax)
 unfolding visitCheck
-fine-exactly v = (λ e. leb-true v visitMax (unless-fine _ Fault.Beyond e), λ h. fine-unless Fault.Beyond (le-leb v visitMax h))
+fine-exactly v =
+    (λ e. leb-true v visitMax (unless-fine _ Fault.Beyond e), λ h. fine-unless Fault.Beyond (le-leb v visitMax h))
 
 pub beyond : (r : Result) → r .number ≤ numberMax → visitMax < r .visit
     → checkResult r ≡ Status.Refused Fault.Beyond 2

@@ -23,7 +23,8 @@ withBox v b = withHigh (withLow v (record { count = b .n; row = b .lo })) (b .hi
 
 -- whatever the lines before say, these add what they say
 pub record ToldFrom (t : List ℕ) (a : ℕ) (r : ToldAt) : Type 0 where
-  pub leads : (v : Result) → Leads resultForm t a ResultLine.Verdict v (r .status) ResultLine.Lo (withTold v r) (r .next)
+  pub leads : (v : Result)
+      → Leads resultForm t a ResultLine.Verdict v (r .status) ResultLine.Lo (withTold v r) (r .next)
 
 pub record BoxFrom (t : List ℕ) (a : ℕ) (r : BoxAt) : Type 0 where
   pub leads : (v : Result) → Leads resultForm t a ResultLine.Lo v (r .status) ResultLine.End (withBox v r) (r .next)

@@ -68,8 +68,8 @@ pub room-visited : (last : ℕ) (s : List ℕ) → isTaken (roomOf last s .stand
     → Visited last s (roomOf last s .job) (roomOf last s .reading)
 unfolding roomOf
 room-visited last s e =
-    go (eqb (numberAt s jobFrom) 0) (leb (numberAt s readingFrom) readingMost) (leb (numberAt s jobFrom) jobMost) refl refl
-    refl e
+    go (eqb (numberAt s jobFrom) 0) (leb (numberAt s readingFrom) readingMost) (leb (numberAt s jobFrom) jobMost)
+    refl refl refl e
   where
     j : JobRead
     j = readJob (textAt s jobFrom)

@@ -18,8 +18,8 @@ module _ {t old new : List ℕ} {a : Written} (w : Leaves Status.Done t old new 
   room-told = ap (λ (x : Written). isBad (x .status)) (w .answer) ∙ by (ltb (length old) (length t))
     where
       by : (b : Bool)
-          → isBad (cond b (refused (Status.Refused Fault.ShortBuffer 0)) (record { status = Status.Done; len = length t })
-          .status) ≡ b
+          → isBad (cond b (refused (Status.Refused Fault.ShortBuffer 0))
+          (record { status = Status.Done; len = length t }) .status) ≡ b
       by true = refl
       by false = refl
 

@@ -1,4 +1,4 @@
-// The five calls on the table of eight rooms. Any bytes and numbers are taken, and a call that is refused changes nothing.
+// The five calls on the table of eight rooms. Any bytes and numbers are taken; a call that is refused changes nothing.
 mod table;
 
 use crate::table::is_whole;

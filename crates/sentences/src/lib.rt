@@ -25,7 +25,8 @@ ghost use Rattle.result_form.specs.ResultForm.{readResult};
 ghost use Rattle.slips.specs.declared.Slip.{Slip};
 ghost use Rattle.slips.specs.Slips.{foundIn};
 ghost use Rattle.phrases.specs.Says.{Says, sentenceMax};
-ghost use Rattle.sentences.specs.Sentences.{unknownsWords, pinnedWords, roomWords, slipWords, tableWords, Explains};
+ghost use Rattle.sentences.specs.Sentences.{unknownsWords, pinnedWords, roomWords, slipWords, tableWords};
+ghost use Rattle.sentences.specs.Sentences.{Explains};
 
 // The longest sentence: a buffer of this size has room for any.
 pub const SENTENCE: usize = 256;

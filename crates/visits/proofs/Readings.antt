@@ -165,7 +165,8 @@ module _ (j : Job) (checked : checkJob j ≡ Status.Done) (visit : ℕ) where
   unfolding resultOf runOf
   opened-right h =
       let start = start-in (check-done j checked) in
-      let none = sound (resultOf j (runFrom j (startOf j) 0)) (from-checked j checked (startOf j) start 0 (omega arith)) in
+      let right = from-checked j checked (startOf j) start 0 (omega arith) in
+      let none = sound (resultOf j (runFrom j (startOf j) 0)) right in
       unfaulted (openedAs visit j) record {
         number = none .number;
         visit = h;

@@ -37,14 +37,16 @@ unfolding zeros
 put-byte-requires c κs =
     let l = c .before .before .loop in
     let start = c .before .before .before .before in
-    omega (arith, l .inv .wrote .next, length-replicate {A = ℕ} (l .-i) 0, l .inv .few, c .before .loop-test .taken, start .pre)
+    let zeroed = length-replicate {A = ℕ} (l .-i) 0 in
+    omega (arith, l .inv .wrote .next, zeroed, l .inv .few, c .before .loop-test .taken, start .pre)
 
 loop-again : tie.Need-loop-again Inv-loop μ-loop
 loop-again c =
     let l = c .before .before .before .before .before .loop in
     record {
       few = omega arith;
-      wrote = rw (add-one (l .-i)) (wrote-as (more (l .-i)) (wrote-append (l .inv .wrote) (c .before .before .put-byte .ensures)));
+      wrote = rw (add-one (l .-i))
+          (wrote-as (more (l .-i)) (wrote-append (l .inv .wrote) (c .before .before .put-byte .ensures)));
     }
 
 same-length : tie.Need-same-length Inv-loop μ-loop

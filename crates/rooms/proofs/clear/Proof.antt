@@ -15,7 +15,8 @@ returns c = rw (lt-leb tableSize _ (c .if1 .taken)) (refl, refl)
 returns-2 : tie.Need-returns-2
 unfolding cleared badUnless onLine
 returns-2 c =
-    rw (le-leb tableSize _ (c .before .before .before .before .if1 .left)) (refl, c .before .before .wipe .ensures .text)
+    rw (le-leb tableSize _ (c .before .before .before .before .if1 .left))
+    (refl, c .before .before .wipe .ensures .text)
 
 pub clear-spec : {M : Type 1} → statement M
 clear-spec =

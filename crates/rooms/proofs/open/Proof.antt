@@ -18,7 +18,8 @@ returns : tie.Need-returns
 returns c =
     let args = c .before .before .before .before .before .before .args in
     not-opened (args .table .now) (args .text .now)
-    (no-table _ _ (sym (c .before .before .is-whole .ensures) ∙ not-true _ (c .before .if1 .taken))) refl (c .not-opened .ensures)
+    (no-table _ _ (sym (c .before .before .is-whole .ensures) ∙ not-true _ (c .before .if1 .taken))) refl
+    (c .not-opened .ensures)
 
 returns-2 : tie.Need-returns-2
 returns-2 c =
@@ -86,7 +87,8 @@ put-visitor-requires c κs =
     let done = not-bad _ right in (
       (whole-long _ whole, slot .if3 .left),
       (
-        rw (c .before .first-reading .ensures, read .read-job .ensures) (opened-right _ (read-checked (args .text .now) done) _
+        rw (c .before .first-reading .ensures, read .read-job .ensures)
+            (opened-right _ (read-checked (args .text .now) done) _
             (omega (arith, c .before .before .before .if4 .left))),
         job-short (args .text .now) done,
       ),

@@ -55,7 +55,8 @@ returns-2 c =
     let held = test .before .before in
     let args = held .before .before .before .before .args in
     let good = bad-told (held .held-status .ensures) (test .before .is-bad .ensures) (test .if1 .left) in
-    let w = rw (wrote .before .before .next-reading .ensures, room .room-at .ensures) at (wrote .write-ready .ensures) in (
+    let next = wrote .before .before .next-reading .ensures in
+    let w = rw (next, room .room-at .ensures) at (wrote .write-ready .ensures) in (
       told (args .table .now) (args .slot) (args .visit) good w (c .before .is-bad2 .ensures),
       step-short (args .table .now) (args .slot) (args .visit) good w (c .before .is-bad2 .ensures) (c .if2 .taken),
     )
@@ -69,10 +70,12 @@ returns-3 c =
     let held = test .before .before in
     let args = held .before .before .before .before .args in
     let good = bad-told (held .held-status .ensures) (test .before .is-bad .ensures) (test .if1 .left) in
-    let w = rw (wrote .before .before .next-reading .ensures, room .room-at .ensures) at (wrote .write-ready .ensures) in
+    let next = wrote .before .before .next-reading .ensures in
+    let w = rw (next, room .room-at .ensures) at (wrote .write-ready .ensures) in
     let done = ap finished (sym (room .room-at .ensures)) ∙ sym (c .before .is-finished .ensures) ∙ c .if3 .taken in (
       told (args .table .now) (args .slot) (args .visit) good w (short .before .is-bad2 .ensures),
-      step-finished (args .table .now) (args .slot) (args .visit) good w (short .before .is-bad2 .ensures) (short .if2 .left) done,
+      step-finished (args .table .now) (args .slot) (args .visit) good w (short .before .is-bad2 .ensures)
+          (short .if2 .left) done,
     )
 
 mul-put-reading : tie.Need-mul-put-reading
@@ -95,7 +98,8 @@ add-put-reading c =
 
 put-reading-requires : tie.Need-put-reading-requires
 put-reading-requires c κs =
-    let room = c .before .before .before .before .before .before .before .before .before .before .before .before in
+    let wrote = c .before .before .before .before .before .before .before in
+    let room = wrote .before .before .before .before .before in
     let test = room .before .before in
     let held = test .before .before in
     let args = held .before .before .before .before .args in
@@ -105,7 +109,7 @@ put-reading-requires c κs =
       omega (arith, long, at .inside),
       (
         omega (arith, at .inside),
-        rw (c .before .before .before .before .before .before .before .before .before .next-reading .ensures, room .room-at .ensures)
+        rw (wrote .before .before .next-reading .ensures, room .room-at .ensures)
             (next-stands _ _ (at-stands (args .table .now) (args .slot) (args .visit) good) .reading),
       ),
     )
@@ -122,10 +126,11 @@ returns-4 c =
     let good = bad-told (held .held-status .ensures) (test .before .is-bad .ensures) (test .if1 .left) in
     let q = wrote .before .before .next-reading .ensures in
     let w = rw (q, room .room-at .ensures) at (wrote .write-ready .ensures) in
-    let left = ap finished (sym (room .room-at .ensures)) ∙ sym (last .before .is-finished .ensures) ∙ last .if3 .left in (
+    let going = sym (last .before .is-finished .ensures) ∙ last .if3 .left in
+    let left = ap finished (sym (room .room-at .ensures)) ∙ going in (
       told (args .table .now) (args .slot) (args .visit) good w (short .before .is-bad2 .ensures),
-      step-moved (args .table .now) (args .slot) (args .visit) good w (short .before .is-bad2 .ensures) (short .if2 .left) left
-          (rw (q, room .room-at .ensures) at (c .before .before .put-reading .ensures)),
+      step-moved (args .table .now) (args .slot) (args .visit) good w (short .before .is-bad2 .ensures)
+          (short .if2 .left) left (rw (q, room .room-at .ensures) at (c .before .before .put-reading .ensures)),
     )
 
 pub step-spec : {M : Type 1} → statement M

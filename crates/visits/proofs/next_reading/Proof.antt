@@ -33,7 +33,8 @@ returns-2 c =
     let test = c .before .before .before .before .before in
     rw (sym (test .before .is-finished .ensures) ∙ test .if1 .left)
     (c .add .ensures
-    ∙ ap (added (test .before .before .args .r)) (rw (c .before .before .box-of .ensures) at (c .before .run-from .ensures)))
+    ∙ ap (added (test .before .before .args .r))
+    (rw (c .before .before .box-of .ensures) at (c .before .run-from .ensures)))
 
 pub next-reading-spec : {M : Type 1} → statement M
 next-reading-spec =

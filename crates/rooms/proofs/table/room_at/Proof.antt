@@ -8,8 +8,8 @@ use Rattle.rooms.proofs.table.room_at.Tie as tie
 returns : tie.Need-returns
 returns c =
     let start = c .before .before .before .before in
-    rw (cut-part (start .args .table .now) (slotFrom (start .args .slot)) slotSize, c .before .before .number-at .ensures) at
-    (c .room-of .ensures)
+    let slot = cut-part (start .args .table .now) (slotFrom (start .args .slot)) slotSize in
+    rw (slot, c .before .before .number-at .ensures) at (c .room-of .ensures)
 
 pub room-at-spec : {M : Type 1} → statement M
 room-at-spec =
