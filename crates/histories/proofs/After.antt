@@ -24,7 +24,7 @@ use Rattle.room_form.specs.Table.{roomsMax, jobFrom, slotSize, tableSize, slotF
 use Rattle.room_form.specs.Table.{lastIn, freeRoom, takenRoom, isVisit, roomOf, roomAt, isWhole}
 use Rattle.room_form.specs.Calls.{nextVisit, withVisitor}
 use Rattle.room_form.proofs.Visited.{Visited, visited-room, are-together}
-use Rattle.histories.proofs.Free.{is-free, room-later}
+use Rattle.room_form.proofs.Free.{is-free, room-later}
 use Rattle.room_form.proofs.PutReading.{reading-short}
 use Rattle.room_form.proofs.Opening.{job-short}
 use Rattle.histories.proofs.Kept.{other-slot, own-slot, same-last, head-set, slot-long, read-again}

@@ -1,4 +1,3 @@
-pub mod Free
 pub mod Kept
 pub mod After
 pub mod Formed

@@ -30,7 +30,7 @@ use Rattle.room_form.specs.Calls.{isTaken, holds, heldStatus, afterStep, finish
 use Rattle.room_form.proofs.Whole.{whole-long, whole-each}
 use Rattle.room_form.proofs.Visited.{HeldAt, held-at}
 use Rattle.histories.proofs.After.{clear-last, close-own}
-use Rattle.histories.proofs.Free.{free-or-taken}
+use Rattle.room_form.proofs.Free.{free-or-taken}
 use Rattle.histories.proofs.Isolated.{lowest-is-free}
 use Rattle.histories.proofs.Own.{lower-taken}
 

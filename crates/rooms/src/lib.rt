@@ -1,6 +1,7 @@
 // The five calls on the table of eight rooms. Any bytes and numbers are taken; a call that is refused changes nothing.
 mod table;
 
+use crate::table::is_free;
 use crate::table::is_whole;
 use crate::table::room_at;
 use cells::number_at;
@@ -31,7 +32,7 @@ ghost use Rattle.checks.specs.CheckResult.{checkResult};
 ghost use Rattle.result_form.specs.ResultShows.{showResult};
 ghost use Rattle.cells.specs.Cells.{cell};
 ghost use Rattle.room_form.specs.Table.{roomsMax, jobMost, readingMost, tableSize, roomAt};
-ghost use Rattle.room_form.specs.Calls.{clearStatus, cleared, isFree, lowestFree, openStatus, openAnswer, nextVisit};
+ghost use Rattle.room_form.specs.Calls.{clearStatus, cleared, lowestFree, openStatus, openAnswer, nextVisit};
 ghost use Rattle.room_form.specs.Calls.{withVisitor, opened, isTaken, holds, heldStatus, afterStep, stepped, closed};
 
 // The sizes of docs/ROOMS.md: each text stands behind its length, a number of four bytes.
@@ -61,16 +62,6 @@ pub fn clear(table: &mut [u8]) -> Status
     Status::Done
 }
 
-fn free(s: Standing) -> bool
-    ensures { λ b. ⌜ b ≡ isFree s ⌝ }
-{
-    match s {
-        Standing::Free => true,
-        Standing::Taken => false,
-        Standing::Broken => false,
-    }
-}
-
 fn taken(s: Standing) -> bool
     ensures { λ b. ⌜ b ≡ isTaken s ⌝ }
 {
@@ -87,9 +78,7 @@ fn lowest_free(table: &[u8]) -> usize
     ensures { λ k. ⌜ k ≡ lowestFree (now (table .entry)) ⌝ }
 {
     for k in 0..ROOMS {
-        let room = room_at(table, k);
-        let standing = room.standing;
-        if free(standing) {
+        if is_free(table, k) {
             return k;
         }
     }

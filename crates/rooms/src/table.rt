@@ -24,6 +24,7 @@ ghost use Prim.Native.Nat.{_≤_, _<_};
 ghost use lib.ListN.{length};
 ghost use Rattle.room_form.specs.Table.{roomsMax, slotSize, tableSize, freeRoom, brokenRoom, isVisit, heldBy};
 ghost use Rattle.room_form.specs.Table.{roomOf, roomAt, isWhole, whole};
+ghost use Rattle.room_form.specs.Calls.{isFree};
 
 fn free_room() -> Room
     ensures { λ r. ⌜ r ≡ freeRoom ⌝ }
@@ -115,6 +116,14 @@ pub fn room_at(table: &[u8], slot: usize) -> Room
     let from = HEAD + slot * SLOT;
     let last = number_at(table, 0);
     room_of(&table[from..from + SLOT], last)
+}
+
+// Whether a slot is free: the length of its job text tells.
+pub fn is_free(table: &[u8], slot: usize) -> bool
+    requires { ⌜ (tableSize ≤ length (now table)) × (slot < roomsMax) ⌝ }
+    ensures { λ b. ⌜ b ≡ isFree (roomAt (now (table .entry)) slot .standing) ⌝ }
+{
+    number_at(table, HEAD + slot * SLOT + JOB_FROM) == 0
 }
 
 fn stands(s: Standing) -> bool

@@ -1,8 +1,7 @@
 -- `rooms::lowest_free` meets its contract. The loop's invariant: no slot passed is free.
 use Prim.Native.Nat.{_-_, _≤_}
 use native.Mathlib.Omega.{arith}
-use mathlib.Core.Path.{_≡_, refl, sym, ap, _∙_}
-use Rattle.room_form.specs.declared.Room.{Room}
+use mathlib.Core.Path.{_≡_, refl, sym, _∙_}
 use Rattle.room_form.specs.Table.{roomsMax, roomAt}
 use Rattle.room_form.specs.Calls.{isFree, firstFrom, lowestFree}
 use Rattle.room_form.proofs.Lowest.{first-here, first-later, first-none}
@@ -22,16 +21,14 @@ loop-holds c = (omega arith, refl)
 
 returns : tie.Need-returns Inv-loop μ-loop
 returns c =
-    let test = c .before .before .before in
-    let is = ap (λ (r : Room). isFree (r .standing)) (sym (c .before .before .room-at .ensures))
-    ∙ sym (c .before .free .ensures) ∙ c .if1 .taken in
+    let test = c .before .before in
+    let is = sym (c .before .is-free .ensures) ∙ c .if1 .taken in
     sym (test .before .loop .inv .1 ∙ first-here _ roomsMax _ (test .loop-test .taken) is)
 
 loop-again : tie.Need-loop-again Inv-loop μ-loop
 loop-again c =
-    let test = c .before .before .before in
-    let other = ap (λ (r : Room). isFree (r .standing)) (sym (c .before .before .room-at .ensures))
-    ∙ sym (c .before .free .ensures) ∙ c .if1 .left in
+    let test = c .before .before in
+    let other = sym (c .before .is-free .ensures) ∙ c .if1 .left in
     (omega arith, test .before .loop .inv .1 ∙ first-later _ roomsMax _ (test .loop-test .taken) other)
 
 returns-2 : tie.Need-returns-2 Inv-loop μ-loop
@@ -43,5 +40,5 @@ returns-2 c =
 pub lowest-free-spec : {M : Type 1} → statement M
 lowest-free-spec =
     tie.close
-    (tie.spec Inv-loop μ-loop loop-holds (λ c κs. search needs) (λ c κs. search needs) returns (λ c. search needs)
-    (λ c. search needs) loop-again returns-2)
+    (tie.spec Inv-loop μ-loop loop-holds (λ c κs. search needs) returns (λ c. search needs) (λ c. search needs) loop-again
+    returns-2)

@@ -31,19 +31,21 @@ not-free last j r = go (isBad (j .status)) (isBad (r .status)) (isVisit last (j 
     go false false true = refl
     go false false false = refl
 
-pub no-length : (last : ℕ) (s : List ℕ) → isFree (roomOf last s .standing) ≡ true → numberAt s jobFrom ≡ 0
+-- "free, which is that the length of its job text is 0"
+pub free-told : (last : ℕ) (s : List ℕ) → isFree (roomOf last s .standing) ≡ eqb (numberAt s jobFrom) 0
 unfolding roomOf
-no-length last s e =
+free-told last s =
     go (eqb (numberAt s jobFrom) 0) (leb (numberAt s readingFrom) readingMost && leb (numberAt s jobFrom) jobMost)
-    refl e
   where
-    go : (a b : Bool) → eqb (numberAt s jobFrom) 0 ≡ a
+    go : (a b : Bool)
         → isFree (cond a freeRoom (cond b
-        (heldBy last (readJob (textAt s jobFrom)) (readResult (textAt s readingFrom))) brokenRoom) .standing) ≡ true
-        → numberAt s jobFrom ≡ 0
-    go true b p e = eqb-true (numberAt s jobFrom) 0 p
-    go false true p e = absurd (true≢false (sym e ∙ not-free last _ _))
-    go false false p e = absurd (true≢false (sym e))
+        (heldBy last (readJob (textAt s jobFrom)) (readResult (textAt s readingFrom))) brokenRoom) .standing) ≡ a
+    go true b = refl
+    go false true = not-free last _ _
+    go false false = refl
+
+pub no-length : (last : ℕ) (s : List ℕ) → isFree (roomOf last s .standing) ≡ true → numberAt s jobFrom ≡ 0
+no-length last s e = eqb-true (numberAt s jobFrom) 0 (sym (free-told last s) ∙ e)
 
 pub is-free : (last : ℕ) (s : List ℕ) → numberAt s jobFrom ≡ 0 → roomOf last s ≡ freeRoom
 unfolding roomOf
