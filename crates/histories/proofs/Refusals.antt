@@ -71,11 +71,6 @@ pub clear-done : (t : List ℕ) → tableSize ≤ length t → clearStatus t ≡
 unfolding badUnless onLine
 clear-done t long = rw (le-leb tableSize (length t) long) refl
 
-pub held-no-table : (t : List ℕ) (slot visit : ℕ) → whole t ≡ false
-    → heldStatus t slot visit ≡ Status.Refused Fault.Table 0
-unfolding badUnless onLine andThen
-held-no-table t slot visit e = rw e refl
-
 pub open-or-not : (t : List ℕ) (slot visit : ℕ) → whole t ≡ true
     → ((heldStatus t slot visit ≡ Status.Done) × HeldAt t slot visit)
     ⊎ (heldStatus t slot visit ≡ Status.Refused Fault.NotOpen 0)

@@ -30,6 +30,7 @@ use Rattle.room_form.specs.Calls.{clearStatus, cleared, isFree, lowestFree, nex
 use Rattle.room_form.specs.Calls.{heldStatus, afterStep, finished, stepped, closed}
 use Rattle.histories.specs.Histories.{Call, after, afterAll, Holds, ownSteps, Stays, readsAfter, boxAfter}
 use Rattle.room_form.proofs.Visited.{HeldAt}
+use Rattle.room_form.proofs.Visited as visited
 use Rattle.room_form.proofs.Opening as opening
 use Rattle.histories.proofs.Refusals as refusals
 use Rattle.histories.proofs.Formed as formed
@@ -165,7 +166,7 @@ open-sixteen = opening.no-table
 
 pub held-sixteen : (t : List ℕ) (slot visit : ℕ) → whole t ≡ false
     → heldStatus t slot visit ≡ Status.Refused Fault.Table 0
-held-sixteen = refusals.held-no-table
+held-sixteen = visited.held-no-table
 
 pub only-sixteen : (t text : List ℕ) → whole t ≡ true → openStatus t text ≡ Status.Refused Fault.Table 0 → ⊥
 only-sixteen = refusals.only-no-table

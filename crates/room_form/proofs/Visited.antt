@@ -7,7 +7,7 @@ use lib.Dec.{eqb, leb, ltb}
 use borrow.Author.Tests.{eqb-true, eqb-false, eq-eqb, ne-eqb, leb-true, le-leb, ltb-true}
 use Rattle.faults.specs.declared.Fault.{Fault}
 use Rattle.faults.specs.declared.Status.{Status}
-use Rattle.faults.specs.Checks.{isBad}
+use Rattle.faults.specs.Checks.{isBad, badUnless, onLine, andThen}
 use Rattle.faults.proofs.Laws.{not-bad, unless-fine, fine-line, done-first, done-next}
 use Rattle.jobs.specs.declared.Job.{Job}
 use Rattle.jobs.specs.declared.Result.{Result}
@@ -168,6 +168,12 @@ module _ {last : ℕ} {s : List ℕ} {j : Job} {r : Result} (v : Visited last s 
     same = visited-together .same;
     steps = visited-together .steps;
   }
+
+-- "first 16", whatever is shown
+pub held-no-table : (t : List ℕ) (slot visit : ℕ) → whole t ≡ false
+    → heldStatus t slot visit ≡ Status.Refused Fault.Table 0
+unfolding badUnless onLine andThen
+held-no-table t slot visit e = rw e refl
 
 pub record HeldAt (t : List ℕ) (slot visit : ℕ) : Type 0 where
   pub is-whole : whole t ≡ true

@@ -6,13 +6,16 @@ use Rattle.room_form.specs.declared.Room.{Room}
 use Rattle.room_form.specs.Table.{roomsMax}
 use Rattle.room_form.specs.Calls.{holds}
 use Rattle.room_form.proofs.Whole.{whole-long}
+use Rattle.room_form.proofs.Visited.{held-no-table}
 use borrow.Author.Needs.{needs}
 use Rattle.rooms.proofs.held_status.Statement.{statement}
 use Rattle.rooms.proofs.held_status.Tie as tie
 
 returns : tie.Need-returns
-unfolding badUnless onLine andThen
-returns c = rw (sym (c .before .is-whole .ensures) ∙ not-true _ (c .if1 .taken)) refl
+returns c =
+    let args = c .before .before .before .args in
+    let broken = sym (c .before .is-whole .ensures) ∙ not-true _ (c .if1 .taken) in
+    sym (held-no-table (args .table .now) (args .slot) (args .visit) broken)
 
 room-at-requires : tie.Need-room-at-requires
 room-at-requires c κs =
