@@ -13,8 +13,8 @@ use Rattle.result_form.specs.declared.ResultRead.{ResultRead}
 use Rattle.result_form.specs.ResultForm.{readResult}
 use Rattle.cells.specs.Cells.{numberAt, textAt}
 use Rattle.room_form.specs.declared.Standing.{Standing}
-use Rattle.room_form.specs.Table.{readingFrom, readingMost, jobFrom, jobMost, freeRoom, brokenRoom, takenRoom, isVisit}
-use Rattle.room_form.specs.Table.{heldBy, roomOf, isWhole}
+use Rattle.room_form.specs.Table.{readingFrom, readingMost, jobFrom, jobMost, freeRoom, brokenRoom, takenRoom}
+use Rattle.room_form.specs.Table.{isVisit, heldBy, roomOf, isWhole}
 use Rattle.room_form.specs.Calls.{isFree, isTaken}
 use Rattle.room_form.proofs.Visited.{Visited, room-visited, visited-room, together, are-together}
 

@@ -18,4 +18,6 @@ returns c =
     ∙ sym (free-told (lastIn (args .table .now)) (slotIn (args .table .now) (args .slot)))
 
 pub is-free-spec : {M : Type 1} → statement M
-is-free-spec = tie.close (tie.spec (λ c. search needs) (λ c. search needs) (λ c. search needs) (λ c κs. search needs) returns)
+is-free-spec =
+    tie.close
+    (tie.spec (λ c. search needs) (λ c. search needs) (λ c. search needs) (λ c κs. search needs) returns)
