@@ -26,6 +26,9 @@ LEMMAS = [
     ("term_round.proofs.ReadBack", "is_digit"),
 ]
 CRATES = {"jobForm": "job_form_of", "resultForm": "result_form_of", "stepText": "step_text_of", "checks": "checks"}
+# in code a comment is turned, a string and a letter are not
+PIECES = re.compile(r"""(//[^\n]*|b?'(?:\\.|[^'\\\n])'|"(?:[^"\\]|\\.)*")""", re.S)
+KEPT = re.compile(r"""b?'.*'|".*\"""", re.S)
 # the two parts of an integer, in integers/proofs/ alone
 PARTS = re.compile(r"(?<![\w'])((?:neg-)?)([PN])(?![\w'])")
 
@@ -67,7 +70,7 @@ def main(root):
             if f.endswith(".antt"):
                 new = turned(lemmas(path, old))
             else:
-                new = "".join(p if p.startswith('"') else turned(p) for p in re.split(r'("(?:[^"\\\n]|\\.)*")', old))
+                new = "".join(p if KEPT.fullmatch(p) else turned(p) for p in PIECES.split(old))
             if "/integers/proofs" in folder:
                 new = PARTS.sub(lambda m: m.group(1) + {"P": "pos_part", "N": "neg_part"}[m.group(2)], new)
             else:

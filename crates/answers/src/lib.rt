@@ -1,4 +1,6 @@
 // What a request is answered with, and how an answer is put: a line with its length, then its bytes.
+#![tactic(auto)]
+
 mod calls;
 mod parts;
 

@@ -10,13 +10,13 @@ use crate::words::first_word;
 use jobs::Ends;
 use jobs::zero::zero_ends;
 
-#[derive(Drop)]
+#[derive(Clone, Copy)]
 pub struct Boxed {
     pub good: bool,
     pub ends: Ends,
 }
 
-#[derive(Drop)]
+#[derive(Clone, Copy)]
 pub struct Told {
     pub good: bool,
     pub n: usize,

@@ -5,7 +5,7 @@ ghost use Rattle.arguments.specs.Counts.{capped, value_from, is_spelled, count_b
 use digits::{all_digits, digit};
 
 // A count, or none.
-#[derive(Drop)]
+#[derive(Clone, Copy)]
 pub enum Counted {
     Is(u64),
     Bad,

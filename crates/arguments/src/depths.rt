@@ -8,7 +8,7 @@ use crate::words::first_word;
 use digits::Number;
 use sizes::BOXES;
 
-#[derive(Drop)]
+#[derive(Clone, Copy)]
 pub struct Deep {
     pub good: bool,
     pub depth: i64,

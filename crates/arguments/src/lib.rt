@@ -1,4 +1,6 @@
 // The numbers that a request's line carries: counts, lengths, lists of long numbers, boxes, depths, visits.
+#![tactic(auto)]
+
 pub mod boxes;
 pub mod counts;
 pub mod depths;

@@ -10,7 +10,7 @@ use sizes::N;
 use text::{piece_end, starts};
 
 // The numbers of a list in their places, 0 past them; all 0 where the list is not good.
-#[derive(Drop)]
+#[derive(Clone, Copy)]
 pub struct Places {
     pub good: bool,
     pub at: [i64; N],

@@ -7,7 +7,7 @@ use crate::counts::{Counted, count_of};
 use crate::words::first_word;
 use sizes::TEXT;
 
-#[derive(Drop)]
+#[derive(Clone, Copy)]
 pub struct Shown {
     pub good: bool,
     pub slot: u64,

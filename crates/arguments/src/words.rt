@@ -4,7 +4,7 @@ ghost use Rattle.arguments.specs.Words.{FirstWord};
 use text::piece_end;
 
 // Where it ends, and where what stands behind its space begins.
-#[derive(Drop)]
+#[derive(Clone, Copy)]
 pub struct Word {
     pub end: usize,
     pub next: usize,

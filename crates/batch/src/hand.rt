@@ -10,7 +10,7 @@ pub const BLOCK: usize = 65536;
 
 // The bytes at..end of the input's block are not yet answered, and the first `used` bytes of the output's not yet
 // written.
-#[derive(Drop)]
+#[derive(Clone, Copy)]
 pub struct Hand {
     pub going: bool,
     pub outcome: Outcome,

@@ -1,8 +1,10 @@
 // Many requests in one run, read and written by large blocks. Answers wait until the next read, which could wait
 // itself, or until they fill a block.
+#![tactic(auto)]
+
 mod hand;
 mod input;
-mod lists;
+mod listed;
 mod refusals;
 
 ghost use Rattle.std.specs.Prelude.{◌+◌, ◌≤◌, ◌≡◌, length};
@@ -10,7 +12,7 @@ ghost use Rattle.batch.specs.Hand.{in_max, out_max, InHand};
 
 use crate::hand::{BLOCK, Hand, add, going};
 use crate::input::{more, pass};
-use crate::lists::add_listing;
+use crate::listed::add_listing;
 use crate::refusals::bad_request;
 use answers::{ROOM, deep_asked, reply, reply_call, tell};
 use digits::DIGITS;

@@ -1,4 +1,6 @@
 // What C is answered: three numbers.
+#![tactic(auto)]
+
 ghost use Rattle.std.specs.Prelude.{◌≡◌};
 ghost use Rattle.c_answers.specs.Numbers.{numbers_of};
 
@@ -6,7 +8,7 @@ use faults::{Status, Written};
 
 // `floodrafter_answer` of the header.
 #[repr(C)]
-#[derive(Drop)]
+#[derive(Clone, Copy)]
 pub struct Answer {
     pub fault: u64,
     pub line: u64,

@@ -1,4 +1,6 @@
 // A number in four bytes, and a text with its length before it, anywhere in lent bytes.
+#![tactic(auto)]
+
 ghost use Rattle.std.specs.Prelude.{◌+◌, ◌≤◌, ◌<◌, ◌≡◌, length};
 ghost use Rattle.writing.specs.Wrote.{place_max, Wrote};
 ghost use Rattle.cells.specs.Cells.{number_at, number_bytes, cell, zeros};

@@ -1,4 +1,6 @@
 // A number of marks, written in units.
+#![tactic(auto)]
+
 ghost use Rattle.std.specs.Prelude.{◌+◌, ◌<◌, ◌≤◌, ◌^◌, nat_abs};
 ghost use Rattle.digits.specs.Number.{digits_max};
 ghost use Rattle.writing.specs.Wrote.{place_max, Wrote};

@@ -1,4 +1,6 @@
 // From text to text: a job's answer, and both texts written again. A fault of the text is returned and writes nowhere.
+#![tactic(auto)]
+
 ghost use Rattle.std.specs.Prelude.{◌≡◌};
 ghost use Rattle.faults.specs.declared.Status.{Status};
 ghost use Rattle.faults.specs.Answer.{Leaves};

@@ -1,5 +1,7 @@
 // Digits, and what a number of a text may be. "Numbers: an optional minus, 1 to 9 digits, no leading zero, no minus
 // zero."
+#![tactic(auto)]
+
 ghost use Rattle.std.specs.Prelude.{◌≡◌, ◌-◌, ◌<◌, ◌^◌, nat_abs};
 ghost use Rattle.digits.specs.Bytes.{digit0};
 ghost use Rattle.digits.specs.Digits.{is_digit, all_digits};
@@ -10,14 +12,14 @@ pub const DIGITS: usize = 9;
 pub const LONG: usize = 18;
 
 // A number with no sign, or none.
-#[derive(Drop)]
+#[derive(Clone, Copy)]
 pub enum Magnitude {
     Is(u32),
     Bad,
 }
 
 // A signed number, or none.
-#[derive(Drop)]
+#[derive(Clone, Copy)]
 pub enum Number {
     Is(i64),
     Bad,

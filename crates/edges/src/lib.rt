@@ -1,4 +1,6 @@
 // The widest edge of a box, and the two halves that a cut of it leaves.
+#![tactic(auto)]
+
 ghost use Rattle.std.specs.Prelude.{◌≡◌, ◌≤◌, ◌<◌, set};
 ghost use Rattle.intervals.specs.Places.{side_at};
 ghost use Rattle.intervals.specs.Ranges.{FitsMid};

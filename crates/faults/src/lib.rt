@@ -1,10 +1,12 @@
 // The faults, the answer of a check, and the answer of a text's writer.
+#![tactic(auto)]
+
 ghost use Rattle.std.specs.Prelude.{◌≡◌};
 ghost use Rattle.faults.specs.Words.{fault_number, fault_of};
 ghost use Rattle.faults.specs.Checks.{is_bad, and_then, is_fine, bad_unless, first_of, on_line};
 
 // The faults 1 to 8 of document 01's table, in its order, then those of document 02.
-#[derive(Drop)]
+#[derive(Clone, Copy)]
 pub enum Fault {
     LongText,
     Spelling,
@@ -25,21 +27,21 @@ pub enum Fault {
 pub const FAULTS: u64 = 9;
 
 // What the check of one line finds.
-#[derive(Drop)]
+#[derive(Clone, Copy)]
 pub enum Finding {
     Fine,
     Bad(Fault),
 }
 
 // A fault carries its line, counted from 1, or 0 where no line carries it.
-#[derive(Drop)]
+#[derive(Clone, Copy)]
 pub enum Status {
     Done,
     Refused(Fault, u64),
 }
 
 // The answer of a text's writer: how many bytes were written, 0 beside a fault.
-#[derive(Drop)]
+#[derive(Clone, Copy)]
 pub struct Written {
     pub status: Status,
     pub len: usize,

@@ -8,14 +8,14 @@ use streams::say;
 use text::same_bytes;
 
 // What reads a FILE.
-#[derive(Drop)]
+#[derive(Clone, Copy)]
 pub enum Work {
     One(How),
     Halve(i64),
     Batch,
 }
 
-#[derive(Drop)]
+#[derive(Clone, Copy)]
 pub enum Command {
     Read(Work),
     // A depth stands before the FILE.

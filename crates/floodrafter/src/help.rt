@@ -60,7 +60,7 @@ fn requests(fd: i32) -> bool {
 fn answers(fd: i32) -> bool {
     write_whole(
         fd,
-        b"\n_an answer is a line and a text:\n\
+        b"\nAn answer is a line and a text:\n\
         \x20   LENGTH      how many bytes the answer has, one line feed\n\
         \x20   ANSWER      so many bytes: the lines of what was asked, or fault= and line=\n\
         All answers to what has been read are written before more is read, so a request can wait for the\n\

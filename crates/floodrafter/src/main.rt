@@ -1,4 +1,6 @@
 // The program floodrafter: texts in, texts out, over the proved desk.
+#![tactic(auto)]
+
 mod commands;
 mod help;
 

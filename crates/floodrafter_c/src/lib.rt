@@ -1,4 +1,6 @@
 // For C: a text is a pointer and a length, an answer three numbers. `include/floodrafter.h` is the other side.
+#![tactic(auto)]
+
 pub mod lists;
 pub mod parts;
 pub mod screens;

@@ -6,7 +6,7 @@ use listing::list_text;
 
 // `floodrafter_listing` of the header.
 #[repr(C)]
-#[derive(Drop)]
+#[derive(Clone, Copy)]
 pub struct Boxes {
     pub fault: u64,
     pub line: u64,

@@ -12,7 +12,7 @@ use parts_end::{end_job, end_solve, end_status};
 
 // `floodrafter_taken` of the header.
 #[repr(C)]
-#[derive(Drop)]
+#[derive(Clone, Copy)]
 pub struct Taken {
     pub fault: u64,
     pub line: u64,

@@ -14,7 +14,7 @@ use faults::{Status, Written, fault_number};
 
 // What opening answers: beside a fault slot and visit are zero.
 #[repr(C)]
-#[derive(Drop)]
+#[derive(Clone, Copy)]
 pub struct Opened {
     pub fault: u64,
     pub line: u64,

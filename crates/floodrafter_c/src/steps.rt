@@ -13,7 +13,7 @@ use step::Move;
 
 // `floodrafter_box` of the header.
 #[repr(C)]
-#[derive(Drop)]
+#[derive(Clone, Copy)]
 pub struct Sides {
     pub lo: [i64; N],
     pub hi: [i64; N],
@@ -21,7 +21,7 @@ pub struct Sides {
 
 // `floodrafter_shown`: n, and a box of n unknowns.
 #[repr(C)]
-#[derive(Drop)]
+#[derive(Clone, Copy)]
 pub struct Shown {
     pub fault: u64,
     pub line: u64,
@@ -31,7 +31,7 @@ pub struct Shown {
 
 // `floodrafter_move`.
 #[repr(C)]
-#[derive(Drop)]
+#[derive(Clone, Copy)]
 pub struct Moved {
     pub fault: u64,
     pub line: u64,

@@ -1,4 +1,6 @@
 // All closing positions: a box whose run decides nothing is cut in two, and each half is run in its turn.
+#![tactic(auto)]
+
 ghost use Rattle.std.specs.Prelude.{◌≡◌, ◌+◌, ◌*◌, ◌^◌, ◌≤◌, length};
 ghost use Rattle.sizes.specs.Sizes.{n_max, depth_max};
 ghost use Rattle.intervals.specs.Places.{entry_at, side_at};
@@ -28,14 +30,14 @@ pub const LISTED: usize = 1 + N + N;
 pub const NUMBERS: usize = LISTED * BOXES;
 
 // How many boxes are listed, none beside a fault.
-#[derive(Drop)]
+#[derive(Clone, Copy)]
 pub struct Halved {
     pub status: Status,
     pub boxes: usize,
 }
 
 // What becomes of a box that was run.
-#[derive(Drop)]
+#[derive(Clone, Copy)]
 pub enum Part {
     Dropped,
     Unique,
@@ -44,7 +46,7 @@ pub enum Part {
 }
 
 // The box that a run returned stands beside the enum, which holds no array.
-#[derive(Drop)]
+#[derive(Clone, Copy)]
 pub struct Returned {
     pub part: Part,
     pub sides: [Interval; N],

@@ -1,5 +1,7 @@
 // Intervals of marks: exact sums and products, one outward rounding, and the questions that a step asks of two
 // intervals.
+#![tactic(auto)]
+
 ghost use Rattle.std.specs.Prelude.{◌≡◌};
 ghost use Rattle.sizes.specs.Bounds.{up_max};
 ghost use Rattle.integers.specs.Rounding.{floor_by, ceil_by};
@@ -15,7 +17,7 @@ use sizes::MARK;
 const REST: i64 = MARK - 1;
 
 // [lo, hi], in marks.
-#[derive(Drop)]
+#[derive(Clone, Copy)]
 pub struct Interval {
     pub lo: i64,
     pub hi: i64,

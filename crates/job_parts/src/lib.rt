@@ -1,5 +1,7 @@
 // A job text that arrives in parts: begin, take a part, end. One line is held and what the lines before it say, never
 // the text.
+#![tactic(auto)]
+
 ghost use Rattle.std.specs.Prelude.{◌≡◌, true};
 ghost use Rattle.job_parts.specs.Limits.{fits};
 ghost use Rattle.job_parts.specs.Parts.{begun, bytes_taken, part_taken, end_of};
@@ -14,7 +16,7 @@ use sizes::TEXT;
 
 // How many bytes came, up to one over the limit; how many of them are of the line that has not ended, and that line.
 #[repr(C)]
-#[derive(Drop)]
+#[derive(Clone, Copy)]
 pub struct Parts {
     pub size: usize,
     pub held: usize,
@@ -22,7 +24,7 @@ pub struct Parts {
     pub bytes: [u8; TEXT],
 }
 
-#[derive(Drop)]
+#[derive(Clone, Copy)]
 pub struct Taken {
     pub status: Status,
     pub parts: Parts,

@@ -1,4 +1,6 @@
 // The lines of a job text, put into a lent buffer one after another.
+#![tactic(auto)]
+
 mod rows;
 mod system;
 

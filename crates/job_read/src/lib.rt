@@ -1,4 +1,6 @@
 // The reader of a job text, line after line from where each begins. The parts of the job are put together once.
+#![tactic(auto)]
+
 mod ends;
 pub mod first;
 mod system;
@@ -16,15 +18,15 @@ use sizes::{N, TEXT};
 use system::system_at;
 
 // What some lines say, and where the next line begins. Beside a fault the rest is any.
-#[derive(Drop)]
+#[derive(Clone, Copy)]
 pub struct HeadAt {
     pub status: Status,
     pub head: Head,
     pub next: usize,
 }
 
-#[derive(Drop)]
-struct BoxAt {
+#[derive(Clone, Copy)]
+pub struct BoxAt {
     status: Status,
     ends: Ends,
     inv: [Row; N],
@@ -32,7 +34,7 @@ struct BoxAt {
     next: usize,
 }
 
-#[derive(Drop)]
+#[derive(Clone, Copy)]
 struct SystemAt {
     status: Status,
     system: Body,
@@ -40,13 +42,13 @@ struct SystemAt {
 }
 
 // The same where what the lines say is not kept.
-#[derive(Drop)]
+#[derive(Clone, Copy)]
 struct LineEnd {
     found: Finding,
     next: usize,
 }
 
-#[derive(Drop)]
+#[derive(Clone, Copy)]
 struct SystemEnd {
     status: Status,
     next: usize,

@@ -1,4 +1,6 @@
 // The writer of a job text.
+#![tactic(auto)]
+
 ghost use Rattle.std.specs.Prelude.{◌≡◌};
 ghost use Rattle.checks.specs.Checks.{check_job};
 ghost use Rattle.faults.specs.Answer.{Leaves};

@@ -1,12 +1,14 @@
 // The values that the solver takes and gives: a job, a result. Places past n play no part on the way in and are zero on
 // the way out.
+#![tactic(auto)]
+
 pub mod lines;
 pub mod zero;
 
 use sizes::{N, TERMS};
 
 // "The system is a polynomial one, a linear one (A x = b) or an eigenpair of a matrix."
-#[derive(Drop)]
+#[derive(Clone, Copy)]
 pub enum Kind {
     Poly,
     Linear,
@@ -15,7 +17,7 @@ pub enum Kind {
 
 // A coefficient in marks, and an exponent for each unknown.
 #[repr(C)]
-#[derive(Drop)]
+#[derive(Clone, Copy)]
 pub struct Term {
     pub coef: i64,
     pub exps: [u8; N],
@@ -23,7 +25,7 @@ pub struct Term {
 
 // The first `count` of its terms are live.
 #[repr(C)]
-#[derive(Drop)]
+#[derive(Clone, Copy)]
 pub struct Equation {
     pub count: usize,
     pub terms: [Term; TERMS],
@@ -31,13 +33,13 @@ pub struct Equation {
 
 // A row of a matrix. (A field that is an array of arrays is not covered by the borrow checker, an array of these is.)
 #[repr(C)]
-#[derive(Drop)]
+#[derive(Clone, Copy)]
 pub struct Row {
     pub at: [i64; N],
 }
 
 // "job, kind, n" and, in an eigenpair's, `pin`: the coordinate, counted from 1, that is 1. n means the last.
-#[derive(Drop)]
+#[derive(Clone, Copy)]
 pub struct Head {
     pub number: u64,
     pub kind: Kind,
@@ -46,21 +48,21 @@ pub struct Head {
 }
 
 // The starting box.
-#[derive(Drop)]
+#[derive(Clone, Copy)]
 pub struct Ends {
     pub lo: [i64; N],
     pub hi: [i64; N],
 }
 
 // A polynomial job has its system in `eqs`, a linear one in `rows` and `right`, an eigenpair in `rows`.
-#[derive(Drop)]
+#[derive(Clone, Copy)]
 pub struct Body {
     pub eqs: [Equation; N],
     pub rows: [Row; N],
     pub right: [i64; N],
 }
 
-#[derive(Drop)]
+#[derive(Clone, Copy)]
 pub struct Job {
     pub head: Head,
     pub ends: Ends,
@@ -71,7 +73,7 @@ pub struct Job {
 
 // The kinds of lines of a job text, in their order; Pin is the line after n of an eigenpair's, its pin or, where none
 // is written, its lo; a line of the system with its place, from 0; End where no line is left.
-#[derive(Drop)]
+#[derive(Clone, Copy)]
 pub enum JobLine {
     Number,
     Kind,
@@ -85,7 +87,7 @@ pub enum JobLine {
     End,
 }
 
-#[derive(Drop)]
+#[derive(Clone, Copy)]
 pub enum Verdict {
     None,
     Unique,
@@ -94,7 +96,7 @@ pub enum Verdict {
 }
 
 // What a run answers, and what a result text says. The visit is 0 "for a job run alone".
-#[derive(Drop)]
+#[derive(Clone, Copy)]
 pub struct Result {
     pub number: u64,
     pub visit: u64,
@@ -106,7 +108,7 @@ pub struct Result {
 }
 
 // The kinds of lines of a result text, in their order; End where no line is left.
-#[derive(Drop)]
+#[derive(Clone, Copy)]
 pub enum ResultLine {
     Number,
     Visit,

@@ -1,5 +1,7 @@
 // The boxes that halving lists, of a job text and as lines. A listing is longer than any other answer, so that it is
 // written in pieces: its head, then box by box.
+#![tactic(auto)]
+
 ghost use Rattle.std.specs.Prelude.{◌≤◌, ◌≡◌, pos};
 ghost use Rattle.integers.specs.Equal.{eq_ℤ};
 ghost use Rattle.writing.specs.Wrote.{Wrote, line};
@@ -15,7 +17,7 @@ use sizes::N;
 use writing::{put_count_line, put_list_line, put_word_line};
 
 // The job's number and n, and how many boxes are listed; all zero beside a fault.
-#[derive(Drop)]
+#[derive(Clone, Copy)]
 pub struct Listing {
     pub status: Status,
     pub number: u64,

@@ -1,1 +1,2 @@
 // Theory only: specs/ says what a loop over n places means, proofs/ has its laws.
+#![tactic(auto)]

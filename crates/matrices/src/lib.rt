@@ -1,5 +1,7 @@
 // The scalar products of a step: "The sums of products follow source document 004: exact, and rounded outward once."
 // Each function works on the first n places of its arrays and leaves the others of its result zero.
+#![tactic(auto)]
+
 ghost use Rattle.std.specs.Prelude.{◌≡◌};
 ghost use Rattle.intervals.specs.Interval.{point_i};
 ghost use Rattle.intervals.specs.Places.{entry_at, side_at, cell_at, vector_of, matrix_of};

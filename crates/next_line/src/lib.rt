@@ -1,4 +1,6 @@
 // What is read so far of a job text, and one line more.
+#![tactic(auto)]
+
 pub mod line;
 pub mod state;
 pub mod system;
@@ -9,7 +11,7 @@ use sizes::N;
 // What the lines so far say, in numbers alone, for C carries them from call to call: the first bad line's fault and
 // number, 0 where there is none; the place of the next line in their order; the parts of the job.
 #[repr(C)]
-#[derive(Drop)]
+#[derive(Clone, Copy)]
 pub struct Read {
     pub fault: u64,
     pub line: u64,

@@ -1,5 +1,7 @@
 // The step in two operations, for whoever wants to see the image before it is used: K of a job and a box, and what X
 // and K decide. Every value is taken: what is handed in is checked first.
+#![tactic(auto)]
+
 ghost use Rattle.std.specs.Prelude.{◌≡◌, ◌≤◌};
 ghost use Rattle.sizes.specs.Sizes.{n_max};
 ghost use Rattle.intervals.specs.Places.{entry_at, side_at};
@@ -20,14 +22,14 @@ use step::{Move, values};
 use term_checks::ranges::{all_ordered, all_within};
 
 // Beside a fault the ends are all zero.
-#[derive(Drop)]
+#[derive(Clone, Copy)]
 pub struct Imaged {
     pub status: Status,
     pub ends: Ends,
 }
 
 // The box stands beside the enum, which holds no array. Beside a fault all is zero.
-#[derive(Drop)]
+#[derive(Clone, Copy)]
 pub struct Decided {
     pub status: Status,
     pub what: Move,

@@ -1,5 +1,7 @@
 // A job text that came in parts, at its end. The state that is handed in may be any that is within its limits, so that
 // the values of its job are checked as those handed over without text are.
+#![tactic(auto)]
+
 ghost use Rattle.std.specs.Prelude.{◌≡◌};
 ghost use Rattle.faults.specs.Answer.{Leaves};
 ghost use Rattle.job_parts.specs.Parts.{end_of};

@@ -1,10 +1,12 @@
 // For people: one text's answer, and a plain sentence beside a fault.
-mod lists;
+#![tactic(auto)]
+
+mod listed;
 
 ghost use Rattle.std.specs.Prelude.{◌≤◌};
 ghost use Rattle.phrases.specs.Says.{sentence_max};
 
-use crate::lists::{print, print_fault};
+use crate::listed::{print, print_fault};
 use answers::{ROOM, reply, tell};
 use faults::{Status, Written};
 use halving::NUMBERS;
@@ -19,7 +21,7 @@ use streams::{fill, put, say, say_number};
 pub const DEPTH_PLACE: usize = 2;
 
 // What a text is answered by.
-#[derive(Drop)]
+#[derive(Clone, Copy)]
 pub enum How {
     Reply(Op),
     Show,

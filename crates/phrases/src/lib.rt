@@ -1,4 +1,6 @@
 // What sentences beside a fault are made of: counts, keys, what a line must be, what is wrong with a number.
+#![tactic(auto)]
+
 ghost use Rattle.std.specs.Prelude.{◌+◌, ◌≤◌, [], length};
 ghost use Rattle.slips.specs.declared.Form.{Form};
 ghost use Rattle.phrases.specs.Says.{Says, key_most, value_most, field_most, wrong_most, form_most, expected_most};

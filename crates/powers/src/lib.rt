@@ -1,4 +1,6 @@
 // The powers of an unknown over its interval: a square is never negative.
+#![tactic(auto)]
+
 ghost use Rattle.std.specs.Prelude.{◌≡◌};
 ghost use Rattle.sizes.specs.Sizes.{end_max};
 ghost use Rattle.intervals.specs.Ranges.{InI};

@@ -1,5 +1,7 @@
 // Many requests in one run, as bytes: a request is a line `OP ARGS.. LENGTH` and LF, then LENGTH bytes of text. What is
 // asked stands before the line's last space, the length of the text behind it.
+#![tactic(auto)]
+
 pub mod packets;
 
 ghost use Rattle.std.specs.Prelude.{◌≡◌};
@@ -11,7 +13,7 @@ use arguments::words::first_word;
 use arguments::{Counted, are_lengths, box_of, count_of, deep_of, read_of, shown_of, told_of};
 use text::same_bytes;
 
-#[derive(Drop)]
+#[derive(Clone, Copy)]
 pub enum Op {
     Solve,
     Job,
@@ -23,7 +25,7 @@ pub enum Op {
 }
 
 // What is asked of the table of rooms.
-#[derive(Drop)]
+#[derive(Clone, Copy)]
 pub enum Call {
     Clear,
     Open,
@@ -33,7 +35,7 @@ pub enum Call {
 }
 
 // `halve` lists boxes, which no answer of the others is long enough for.
-#[derive(Drop)]
+#[derive(Clone, Copy)]
 pub enum Named {
     Is(Op),
     Lists,
@@ -42,7 +44,7 @@ pub enum Named {
 }
 
 // What is asked, how many bytes its text has, and how many of the line's say what is asked.
-#[derive(Drop)]
+#[derive(Clone, Copy)]
 pub enum Request {
     Ask(Op, u64, usize),
     List(u64, usize),

@@ -9,7 +9,7 @@ use sizes::TEXT;
 // The most bytes of a request's line, its LF included.
 pub const HEADER: usize = 4096;
 
-#[derive(Drop)]
+#[derive(Clone, Copy)]
 pub enum Seen {
     More,
     Bad,
@@ -20,7 +20,7 @@ pub enum Seen {
 
 // The first `words` bytes at hand say what is asked, what is kept of the text stands from..to; behind it `passed` bytes
 // are to be passed over.
-#[derive(Drop)]
+#[derive(Clone, Copy)]
 pub struct Packet {
     pub seen: Seen,
     pub words: usize,

@@ -1,4 +1,6 @@
 // The reader of a result text, line after line from where each begins.
+#![tactic(auto)]
+
 ghost use Rattle.std.specs.Prelude.{◌≡◌, ◌≤◌, length};
 ghost use Rattle.jobs.specs.Zero.{no_result};
 ghost use Rattle.jobs.specs.declared.ResultLine.{ResultLine};
@@ -17,7 +19,7 @@ use result_form::ResultRead;
 use sizes::{N, TEXT};
 
 // What some lines say, and where the next line begins. Beside a fault the rest is any.
-#[derive(Drop)]
+#[derive(Clone, Copy)]
 struct NamesAt {
     status: Status,
     number: u64,
@@ -25,7 +27,7 @@ struct NamesAt {
     next: usize,
 }
 
-#[derive(Drop)]
+#[derive(Clone, Copy)]
 struct ToldAt {
     status: Status,
     verdict: Verdict,
@@ -33,7 +35,7 @@ struct ToldAt {
     next: usize,
 }
 
-#[derive(Drop)]
+#[derive(Clone, Copy)]
 struct BoxAt {
     status: Status,
     n: usize,

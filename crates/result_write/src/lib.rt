@@ -1,4 +1,6 @@
 // The writer of a result text.
+#![tactic(auto)]
+
 ghost use Rattle.std.specs.Prelude.{◌≡◌, length, leb, ◌≤◌};
 ghost use Rattle.sizes.specs.Sizes.{text_max};
 ghost use Rattle.faults.specs.declared.Status.{Status};

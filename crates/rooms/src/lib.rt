@@ -1,4 +1,6 @@
 // The five calls on the table of eight rooms. Any bytes and numbers are taken; a call that is refused changes nothing.
+#![tactic(auto)]
+
 mod table;
 
 ghost use Rattle.std.specs.Prelude.{◌≡◌, ◌+◌, ◌≤◌, ◌<◌, length};

@@ -1,4 +1,6 @@
 // The run of a job: Krawczyk steps until one decides or the allowance is used up.
+#![tactic(auto)]
+
 ghost use Rattle.std.specs.Prelude.{◌≡◌, ◌≤◌};
 ghost use Rattle.sizes.specs.Sizes.{n_max};
 ghost use Rattle.intervals.specs.Places.{entry_at, side_at};
@@ -17,7 +19,7 @@ use jobs::{Equation, Job, Result, Verdict};
 use sizes::N;
 use step::{Move, values};
 
-#[derive(Drop)]
+#[derive(Clone, Copy)]
 pub struct Outcome {
     pub verdict: Verdict,
     pub steps: u64,
@@ -25,7 +27,7 @@ pub struct Outcome {
 }
 
 // Beside a fault the result is all zero.
-#[derive(Drop)]
+#[derive(Clone, Copy)]
 pub struct Answer {
     pub status: Status,
     pub result: Result,

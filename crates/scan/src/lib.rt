@@ -1,4 +1,6 @@
 // The numbers of a text's line, taken where they stand: each byte is looked at once.
+#![tactic(auto)]
+
 pub mod lines;
 
 ghost use Rattle.std.specs.Prelude.{◌≡◌, ◌+◌, ◌≤◌, ◌<◌, length, pos, neg_ℤ};
@@ -9,21 +11,21 @@ use digits::{DIGITS, is_digit};
 use text::Count;
 
 // A number with no sign and the place after it, `from` itself where none is spelled.
-#[derive(Drop)]
+#[derive(Clone, Copy)]
 struct MagnitudeAt {
     m: u32,
     next: usize,
 }
 
 // A number and the place after it, `from` itself where none is spelled.
-#[derive(Drop)]
+#[derive(Clone, Copy)]
 pub struct NumberAt {
     pub v: i64,
     pub next: usize,
 }
 
 // A line's numbers: whether it is well spelled, how many there are, and where the next line begins.
-#[derive(Drop)]
+#[derive(Clone, Copy)]
 pub struct ListAt {
     pub ok: bool,
     pub count: usize,
@@ -31,7 +33,7 @@ pub struct ListAt {
 }
 
 // A line's one number as a count, and where the next line begins.
-#[derive(Drop)]
+#[derive(Clone, Copy)]
 pub struct CountAt {
     pub count: Count,
     pub next: usize,

@@ -1,4 +1,6 @@
 // The sentence beside a fault, for the typist: what stands there and what is expected.
+#![tactic(auto)]
+
 mod spelled;
 mod values;
 

@@ -1,5 +1,6 @@
 // The sizes of document 01, "Numbers and sizes". Each stands here once for the code, and in specs/Sizes.antt once for
 // the contracts: where the two differ, the crates above are refused.
+#![tactic(auto)]
 
 // "one mark is 1/65,536"
 pub const MARK: i64 = 65536;

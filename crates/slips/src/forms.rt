@@ -7,7 +7,7 @@ use crate::{Form, Key};
 use jobs::{Head, JobLine, Kind, ResultLine};
 
 // The key of a line, if it has one.
-#[derive(Drop)]
+#[derive(Clone, Copy)]
 pub enum Keyed {
     None,
     By(Key),

@@ -1,5 +1,7 @@
 // What is wrong with a line that its reader refuses: the reader's own functions say where it stops, and the bytes there
 // what it met.
+#![tactic(auto)]
+
 pub mod forms;
 mod numbers;
 pub mod places;
@@ -8,7 +10,7 @@ mod terms;
 pub mod values;
 
 // The keys of both texts.
-#[derive(Drop)]
+#[derive(Clone, Copy)]
 pub enum Key {
     Job,
     Kind,
@@ -26,7 +28,7 @@ pub enum Key {
 
 // What a line must be: so many numbers after a key, the right side last; terms with so many exponents; a pin up to
 // this one. PinOrLo is the line after an eigen job's n where neither key stands, Unpinned the low ends of another job.
-#[derive(Drop)]
+#[derive(Clone, Copy)]
 pub enum Form {
     Number,
     Kind,
@@ -45,7 +47,7 @@ pub enum Form {
 }
 
 // A number by its place in the line, counted from 1.
-#[derive(Drop)]
+#[derive(Clone, Copy)]
 pub enum Field {
     Only,
     Number(usize),
@@ -53,7 +55,7 @@ pub enum Field {
 }
 
 // What is wrong with a number's spelling.
-#[derive(Drop)]
+#[derive(Clone, Copy)]
 pub enum Wrong {
     Missing,
     MinusZero,
@@ -67,7 +69,7 @@ pub enum Wrong {
 }
 
 // What is wrong with a term's spelling, its coefficient aside; so many exponents are found.
-#[derive(Drop)]
+#[derive(Clone, Copy)]
 pub enum WrongTerm {
     NoExponents,
     Exponents(usize),
@@ -75,7 +77,7 @@ pub enum WrongTerm {
 }
 
 // What is wrong with a line, whatever it must be.
-#[derive(Drop)]
+#[derive(Clone, Copy)]
 pub enum LineSlip {
     Extra,
     NoFeed,
@@ -85,7 +87,7 @@ pub enum LineSlip {
 }
 
 // How a line is unlike what it must be.
-#[derive(Drop)]
+#[derive(Clone, Copy)]
 pub enum Unlike {
     Gone,
     Hollow,
@@ -96,7 +98,7 @@ pub enum Unlike {
 }
 
 // Fault 2. Terms are counted from 1; what is expected comes before what is found.
-#[derive(Drop)]
+#[derive(Clone, Copy)]
 pub enum Misspelling {
     Empty,
     OrderMark,
@@ -110,7 +112,7 @@ pub enum Misspelling {
 }
 
 // Fault 4: the number and its place.
-#[derive(Drop)]
+#[derive(Clone, Copy)]
 pub enum Far {
     Job(i64),
     Visit(i64),
@@ -121,14 +123,14 @@ pub enum Far {
 }
 
 // Fault 5: the unknown, counted from 1, its low end and its high end.
-#[derive(Drop)]
+#[derive(Clone, Copy)]
 pub enum Crossing {
     At(usize, i64, i64),
     Unplaced,
 }
 
 // Fault 6. Terms are named by their places, counted from 1; two of them stand one after the other.
-#[derive(Drop)]
+#[derive(Clone, Copy)]
 pub enum TermSlip {
     Many(usize),
     Zero(usize),
@@ -139,14 +141,14 @@ pub enum TermSlip {
 }
 
 // Fault 9: the last coordinate, which is pinned without a line, or a pin that does not lie from 1 to this one.
-#[derive(Drop)]
+#[derive(Clone, Copy)]
 pub enum PinSlip {
     Last,
     Out(usize),
 }
 
 // A line that is wrongly spelled: its number, the unknowns, what it must be and what is wrong.
-#[derive(Drop)]
+#[derive(Clone, Copy)]
 pub struct Spelled {
     pub line: u64,
     pub n: usize,
@@ -155,7 +157,7 @@ pub struct Spelled {
 }
 
 // Faults 13 to 16: of a table of rooms, and of no text.
-#[derive(Drop)]
+#[derive(Clone, Copy)]
 pub enum RoomSlip {
     Full,
     Visits,
@@ -164,7 +166,7 @@ pub enum RoomSlip {
 }
 
 // A fault with what its sentence tells.
-#[derive(Drop)]
+#[derive(Clone, Copy)]
 pub enum Slip {
     Nothing,
     Long,

@@ -6,7 +6,7 @@ use scan::is_at;
 use scan::lines::key_at;
 
 // What a byte is to a typist.
-#[derive(Drop)]
+#[derive(Clone, Copy)]
 pub enum Stand {
     End,
     Feed,

@@ -43,7 +43,7 @@ pub fn count(text: &[u8], from: usize) -> usize
 }
 
 // A number of a line and its place, counted from 1; place 0 where there is none.
-#[derive(Drop)]
+#[derive(Clone, Copy)]
 struct Met {
     k: usize,
     v: i64,

@@ -1,4 +1,6 @@
 // Terms, equations and slopes over a box.
+#![tactic(auto)]
+
 ghost use Rattle.std.specs.Prelude.{◌≡◌, ◌<◌};
 ghost use Rattle.intervals.specs.Interval.{point_i};
 ghost use Rattle.intervals.specs.Places.{side_at};
@@ -39,7 +41,7 @@ pub fn less(d: u8, k: usize, j: usize) -> u8
 }
 
 // An equation over one box, and its slopes over another.
-#[derive(Drop)]
+#[derive(Clone, Copy)]
 pub struct Over {
     pub value: Interval,
     pub slopes: [Interval; N],

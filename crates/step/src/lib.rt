@@ -1,4 +1,6 @@
 // One Krawczyk step: the image K of a box X, and what X and K decide.
+#![tactic(auto)]
+
 pub mod values;
 
 ghost use Rattle.std.specs.Prelude.{◌≡◌, ◌≤◌};
@@ -15,7 +17,7 @@ use intervals::Interval;
 use sizes::N;
 
 // What a step decides: a verdict, or that X becomes the cut and the next step begins.
-#[derive(Drop)]
+#[derive(Clone, Copy)]
 pub enum Move {
     None,
     Unique,
@@ -24,7 +26,7 @@ pub enum Move {
 }
 
 // The box stands beside the enum, which holds no array.
-#[derive(Drop)]
+#[derive(Clone, Copy)]
 pub struct Decision {
     pub what: Move,
     pub sides: [Interval; N],

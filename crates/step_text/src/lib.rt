@@ -1,4 +1,6 @@
 // An image and what it decides as lines, from a job text or from values. A fault is returned and writes nowhere.
+#![tactic(auto)]
+
 pub mod putting;
 
 ghost use Rattle.std.specs.Prelude.{◌≤◌, ◌≡◌, length, take};

@@ -1,5 +1,7 @@
 // The program's streams: reading and writing. A call that a signal broke off is made again, and what is not ready is
 // waited for.
+#![tactic(auto)]
+
 pub mod outcomes;
 
 ghost use Rattle.std.specs.Prelude.{◌≤◌, length};
@@ -7,7 +9,7 @@ ghost use Rattle.std.specs.Prelude.{◌≤◌, length};
 use libc::{EAGAIN, EINTR, STDERR_FILENO, STDIN_FILENO, STDOUT_FILENO};
 
 // How many bytes came, none where the input has ended or the read failed.
-#[derive(Drop)]
+#[derive(Clone, Copy)]
 pub struct Came {
     pub n: usize,
     pub failed: bool,

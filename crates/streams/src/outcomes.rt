@@ -2,7 +2,7 @@
 // script ./floodrafter exits by it.
 const DIGIT_FILENO: i32 = 3;
 
-#[derive(Drop)]
+#[derive(Clone, Copy)]
 pub enum Outcome {
     Answered,
     Fault,

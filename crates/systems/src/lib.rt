@@ -1,4 +1,6 @@
 // The equations of a job of each kind.
+#![tactic(auto)]
+
 ghost use Rattle.std.specs.Prelude.{◌≡◌, ◌≤◌};
 ghost use Rattle.integers.specs.Ranges.{Within};
 ghost use Rattle.lists.specs.Loops.{tab};

@@ -1,4 +1,6 @@
 // The terms of an `eq` line, each taken where it stands.
+#![tactic(auto)]
+
 ghost use Rattle.std.specs.Prelude.{◌≡◌, true, ◌||◌, ◌+◌, ◌≤◌, length};
 ghost use Rattle.sizes.specs.Sizes.{n_max};
 ghost use Rattle.jobs.specs.Zero.{zero_term};
@@ -18,14 +20,14 @@ use sizes::{ENTRY, N, TERMS};
 use term_checks::ranges::within;
 
 // Exponents, if each byte is a digit.
-#[derive(Drop)]
+#[derive(Clone, Copy)]
 struct Exps {
     ok: bool,
     exps: [u8; N],
 }
 
 // A term and the place after it, `from` itself where none is spelled.
-#[derive(Drop)]
+#[derive(Clone, Copy)]
 struct TermAt {
     next: usize,
     term: Term,
@@ -34,7 +36,7 @@ struct TermAt {
 // A line's terms: whether it is well spelled, whether a coefficient is beyond its size, where the next line begins,
 // and the first of them. Of a line that is wrongly spelled: where the first wrong term begins, and how many stand
 // before it.
-#[derive(Drop)]
+#[derive(Clone, Copy)]
 pub struct TermsAt {
     pub ok: bool,
     pub far: bool,
@@ -43,7 +45,7 @@ pub struct TermsAt {
 }
 
 // A line's one digit: whether it is well spelled, what the digit stands for, and where the next line begins.
-#[derive(Drop)]
+#[derive(Clone, Copy)]
 pub struct DigitAt {
     pub ok: bool,
     pub digit: usize,

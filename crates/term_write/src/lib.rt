@@ -1,4 +1,6 @@
 // The writer of an `eq` line.
+#![tactic(auto)]
+
 ghost use Rattle.std.specs.Prelude.{◌+◌, ◌<◌};
 ghost use Rattle.text.specs.Lists.{joined};
 ghost use Rattle.writing.specs.Wrote.{place_max, Wrote, line};

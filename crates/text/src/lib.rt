@@ -1,4 +1,6 @@
 // The pieces of a text's line: its key, a count, a list of numbers.
+#![tactic(auto)]
+
 ghost use Rattle.std.specs.Prelude.{◌≡◌, ◌≤◌, length};
 ghost use Rattle.text.specs.Keys.{starts_with, same_bytes};
 ghost use Rattle.text.specs.Counts.{in_count};
@@ -10,7 +12,7 @@ use sizes::N;
 pub const PLACES: usize = N * N;
 
 // A list of numbers: whether each is well spelled, how many there are, and the first of them.
-#[derive(Drop)]
+#[derive(Clone, Copy)]
 pub struct Numbers {
     pub ok: bool,
     pub count: usize,
@@ -18,7 +20,7 @@ pub struct Numbers {
 }
 
 // A count from 0 to a limit, a number that is none, or no number.
-#[derive(Drop)]
+#[derive(Clone, Copy)]
 pub enum Count {
     Is(u64),
     Out,

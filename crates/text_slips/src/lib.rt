@@ -1,4 +1,6 @@
 // What is wrong with a text that its reader refuses: the reader says which line, and the line what stands there.
+#![tactic(auto)]
+
 ghost use Rattle.std.specs.Prelude.{◌≡◌, ◌≤◌, length};
 ghost use Rattle.sizes.specs.Sizes.{n_max};
 ghost use Rattle.faults.specs.declared.Finding.{Finding};
@@ -23,7 +25,7 @@ use term_read::digit_at;
 
 // A line that is refused: its number, where it begins and where its key ends, what it must be, and where the low ends
 // stand.
-#[derive(Drop)]
+#[derive(Clone, Copy)]
 struct Seen {
     line: u64,
     at: usize,

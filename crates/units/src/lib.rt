@@ -1,4 +1,6 @@
 // An answer in units beside the marks, for people. It is exact: a mark has a finite decimal.
+#![tactic(auto)]
+
 ghost use Rattle.std.specs.Prelude.{◌≡◌};
 ghost use Rattle.faults.specs.declared.Status.{Status};
 ghost use Rattle.checks.specs.CheckResult.{check_result};

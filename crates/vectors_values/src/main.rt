@@ -1,5 +1,7 @@
 // Hands bad values, and right ones with garbage in their dead places, to the run and to both writers, and prints what
 // comes back. The same table stands in tests/second/values.py, which says what that should be.
+#![tactic(auto)]
+
 mod changes;
 mod telling;
 mod values;

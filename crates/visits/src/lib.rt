@@ -1,4 +1,6 @@
 // A visit to a room, by its values: a job, and its reading, which is where the job stands.
+#![tactic(auto)]
+
 ghost use Rattle.std.specs.Prelude.{◌≡◌, ◌+◌, ◌≤◌};
 ghost use Rattle.sizes.specs.Sizes.{n_max, steps_max};
 ghost use Rattle.faults.specs.declared.Status.{Status};

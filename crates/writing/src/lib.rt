@@ -1,5 +1,7 @@
 // Writing into a lent buffer, byte by byte. A byte past the buffer's end is counted and not written, so that the same
 // functions measure a text.
+#![tactic(auto)]
+
 ghost use Rattle.std.specs.Prelude.{◌≡◌, [], ◌∷◌, ◌++◌, ◌+◌, ◌*◌, ◌≤◌, ◌<◌, ◌^◌, length, nat_abs};
 ghost use Rattle.faults.specs.declared.Status.{Status};
 ghost use Rattle.faults.specs.Answer.{Leaves};

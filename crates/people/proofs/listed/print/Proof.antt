@@ -1,9 +1,9 @@
--- `people::lists::print` is safe and ends: the boxes that are left fall.
+-- `people::listed::print` is safe and ends: the boxes that are left fall.
 use Prim.Native.Nat.{◌-◌, ◌≤◌}
 use borrow.Author.Rules.{rules}
 use native.Mathlib.Omega.{arith}
-use Rattle.people.proofs.lists.print.Statement.{statement}
-use Rattle.people.proofs.lists.print.Tie as tie
+use Rattle.people.proofs.listed.print.Statement.{statement}
+use Rattle.people.proofs.listed.print.Tie as tie
 
 abbrev invariant-loop : tie.invariant-loop
 invariant-loop l list whole₀ i₀ whole i = i ≤ l.boxes

@@ -1,12 +1,12 @@
--- `batch::lists::add_boxes` meets its contract, and ends: the boxes that are left fall.
+-- `batch::listed::add_boxes` meets its contract, and ends: the boxes that are left fall.
 use Prim.Native.Nat.{◌-◌, ◌≤◌}
 use mathlib.Core.Path.{◌≡◌}
 use borrow.Author.Rules.{rules}
 use native.Mathlib.Omega.{arith}
 use lib.ListN.{length}
 use Rattle.batch.specs.Hand.{InHand}
-use Rattle.batch.proofs.lists.add_boxes.Statement.{statement}
-use Rattle.batch.proofs.lists.add_boxes.Tie as tie
+use Rattle.batch.proofs.listed.add_boxes.Statement.{statement}
+use Rattle.batch.proofs.listed.add_boxes.Tie as tie
 
 abbrev invariant-loop : tie.invariant-loop
 invariant-loop out₀ l list bytes next₀ i₀ out next i =

@@ -1,11 +1,11 @@
--- `batch::lists::add_head` meets its contract: a line and a piece fit behind a block.
+-- `batch::listed::add_head` meets its contract: a line and a piece fit behind a block.
 use borrow.Author.Rules.{rules}
 use native.Mathlib.Omega.{arith}
 use mathlib.Core.List.{[]}
 use Rattle.writing.proofs.Lines.{count-line-short}
 use Rattle.writing.proofs.Wrote.{wrote-length}
-use Rattle.batch.proofs.lists.add_head.Statement.{statement}
-use Rattle.batch.proofs.lists.add_head.Tie as tie
+use Rattle.batch.proofs.listed.add_head.Statement.{statement}
+use Rattle.batch.proofs.listed.add_head.Tie as tie
 
 put-head-requires : tie.Need-put-head-requires
 put-head-requires c κs =
