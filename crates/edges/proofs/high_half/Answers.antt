@@ -7,7 +7,7 @@ use Rattle.edges.proofs.high_half.Goals as goal
 
 pub high_part-requires : goal.high_part-requires
 high_part-requires c =
-    rw c.widest_side.ensures (fits-mid (omega arith) (widest-in c.args.x c.args.n c.requires.1 c.requires.0))
+    rw c.widest_side.ensures (fits-mid (omega arith) (widest-in c.args.x c.args.n c.requires.le_n c.requires.box_in))
 
 pub returns : goal.returns
 unfolding high_half

@@ -10,7 +10,7 @@ use Rattle.edges.proofs.is_wide.Goals as goal
 
 pub width-requires : goal.width-requires
 width-requires c =
-    rw c.widest_side.ensures (fits_width (widest-in c.args.x c.args.n c.requires.1 c.requires.0))
+    rw c.widest_side.ensures (fits_width (widest-in c.args.x c.args.n c.requires.le_n c.requires.box_in))
 
 pub returns : goal.returns
 unfolding is_wide

@@ -7,7 +7,7 @@ use Rattle.edges.proofs.low_half.Goals as goal
 
 pub low_part-requires : goal.low_part-requires
 low_part-requires c =
-    rw c.widest_side.ensures (fits-mid (omega arith) (widest-in c.args.x c.args.n c.requires.1 c.requires.0))
+    rw c.widest_side.ensures (fits-mid (omega arith) (widest-in c.args.x c.args.n c.requires.le_n c.requires.box_in))
 
 pub returns : goal.returns
 unfolding low_half

@@ -8,7 +8,7 @@ pub loop-i-init : goal.loop-i-init
 loop-i-init c = (omega arith, (omega arith, widest-none _))
 
 pub wider-k-requires : goal.wider-k-requires
-wider-k-requires c = (c.requires, (c.loop-i-test.true, omega arith))
+wider-k-requires c = record { box_in = c.requires; i_lt_n = (c.loop-i-test.true, omega arith) }
 
 pub loop-i-preserved : goal.loop-i-preserved
 loop-i-preserved c =
