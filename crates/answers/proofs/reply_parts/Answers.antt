@@ -1,0 +1,12 @@
+-- reply_parts: what was handed over is the text.
+use mathlib.Core.Path.{ap, ◌∙◌}
+use Rattle.desk.specs.Desk.{job_status, job_text}
+use Rattle.job_parts.specs.Parts.{end_of}
+use Rattle.job_parts.proofs.Whole.{text-whole}
+use Rattle.answers.proofs.reply_parts.Goals as goal
+
+pub returns : goal.returns
+unfolding job_status job_text
+returns c =
+    let text = c.args.text.now in
+    rw (← ap end_of c.hand_over-p.ensures ∙ text-whole text) c.end_job.ensures
