@@ -16,7 +16,7 @@ overflow_sub-text c = c.loop-at.invariant.0
 
 pub overflow_add-to : goal.overflow_add-to
 overflow_add-to c =
-    record { fits = omega (arith, c.part_length.ensures, c.loop-at.invariant.0, c.well-formed.1.0.0) }
+    record { fits = omega (arith, c.part_length.ensures, c.loop-at.invariant.0, c.well_formed.1.0.0) }
 
 pub slice_bounds-take-end : goal.slice_bounds-take-end
 slice_bounds-take-end c = omega (arith, c.part_length.ensures, c.loop-at.invariant.0)

@@ -5,9 +5,7 @@ use Rattle.faults.specs.declared.Status.{Status}
 use Rattle.room_form.specs.declared.Opened as rooms
 use Rattle.room_form.specs.Calls.{open_answer}
 use Rattle.floodrafter_c.specs.Screens.{opened_by}
-use borrow.Author.Rules.{rules}
-use Rattle.floodrafter_c.proofs.screens.floodrafter_room_open.Statement.{statement}
-use Rattle.floodrafter_c.proofs.screens.floodrafter_room_open.Tie as tie
+use Rattle.floodrafter_c.proofs.screens.floodrafter_room_open.Goals as goal
 
 -- what opening answers, as numbers
 as-numbers : (st : Status) (slot visit : ℕ) {o : rooms.Opened} → o ≡ open_answer st slot visit
@@ -21,12 +19,5 @@ as-numbers st slot visit e = rw e (go st)
     go Status.Done = refl
     go (Status.Refused f line) = refl
 
-returns : tie.Need-returns
-returns c =
-    let call = c.before.before.before in
-    (c.told.ensures ∙ as-numbers _ _ _ call.«open».ensures.0, call.«open».ensures.1)
-
-pub floodrafter-room-open-spec : {M : Type 1} → statement M
-floodrafter-room-open-spec =
-    tie.close
-    (tie.spec (λ c κs. search rules) (λ c κs. search rules) (λ c. search rules) returns)
+pub returns : goal.returns
+returns c = record { answer = c.told.ensures ∙ as-numbers _ _ _ c.open-o.ensures.answer; table = c.open-o.ensures.table }
