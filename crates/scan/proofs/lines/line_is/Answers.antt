@@ -1,0 +1,14 @@
+-- `scan::lines::line_is` meets its contract.
+use mathlib.Core.Path.{sym, ◌∙◌}
+use Rattle.scan.proofs.Counting.{other-line, line-is}
+use Rattle.scan.proofs.lines.line_is.Goals as goal
+
+pub returns-then-key_at : goal.returns-then-key_at
+returns-then-key_at c =
+    let p = c.requires in
+    c.is_at.ensures ∙ line-is _ _ _ p.0 p.1 (sym c.key_at.ensures ∙ c.if-key_at.true)
+
+pub returns : goal.returns
+returns c =
+    sym (other-line _ _ _ c.requires.0
+    (sym c.key_at.ensures ∙ c.if-key_at.false))
