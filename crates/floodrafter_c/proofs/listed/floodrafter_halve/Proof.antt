@@ -1,8 +1,8 @@
--- `floodrafter_c::lists::floodrafter_halve` meets its contract.
+-- `floodrafter_c::listed::floodrafter_halve` meets its contract.
 use borrow.Author.Rules.{rules}
 use mir.Facts.{to_z-of_z}
-use Rattle.floodrafter_c.proofs.lists.floodrafter_halve.Statement.{statement}
-use Rattle.floodrafter_c.proofs.lists.floodrafter_halve.Tie as tie
+use Rattle.floodrafter_c.proofs.listed.floodrafter_halve.Statement.{statement}
+use Rattle.floodrafter_c.proofs.listed.floodrafter_halve.Tie as tie
 
 returns : tie.Need-returns
 returns c =
