@@ -24,6 +24,7 @@ LEMMAS = [
     ("step.proofs.Decisions", "all_meet"),
     ("step.proofs.Given", "box_in"),
     ("term_round.proofs.ReadBack", "is_digit"),
+    ("term_read.proofs.Digits", "no_digit"),
 ]
 CRATES = {"jobForm": "job_form_of", "resultForm": "result_form_of", "stepText": "step_text_of", "checks": "checks"}
 # in code a comment is turned, a string and a letter are not

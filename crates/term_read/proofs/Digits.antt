@@ -83,11 +83,11 @@ module _ (t key : List ℕ) (from : ℕ) (h : from ≤ length t) (r : DigitAt) w
     keyed : DigitOf (line_of t (from + length key)) t (from + length key) r → DigitFrom key t from r
     keyed e = rw (body_at t key from h a y, ← same_end t key from h a y) e
 
-    pub no_digit : (from + length key < length t → is_digit (get_or t (from + length key) 0) ≡ true
+    pub no_digit_lem : (from + length key < length t → is_digit (get_or t (from + length key) 0) ≡ true
         → is_at t (from + length key + 1) line_feed ≡ false)
         → r ≡ no_digit → DigitFrom key t from r
     unfolding digit_of
-    no_digit n e = keyed (rw (not-one t (from + length key) (key-long t key from h y) n) e)
+    no_digit_lem n e = keyed (rw (not-one t (from + length key) (key-long t key from h y) n) e)
 
     pub one-digit : from + length key < length t → is_digit (get_or t (from + length key) 0) ≡ true
         → is_at t (from + length key + 1) line_feed ≡ true

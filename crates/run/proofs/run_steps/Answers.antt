@@ -1,0 +1,130 @@
+use mathlib.Core.Path.{◌≡◌, sym, ◌∙◌}
+use Prim.Native.Nat.{◌<◌, ◌-◌}
+use native.Mathlib.Nat.{sub-zero}
+use native.Mathlib.Omega.{arith}
+use borrow.Author.Rules.{rules}
+use Rattle.sizes.specs.Sizes.{n_max}
+use Rattle.intervals.specs.Places.{entry_at, side_at}
+use Rattle.jobs.specs.Places.{equation_at}
+use Rattle.slopes.specs.Terms.{values_over, slopes_over}
+use Rattle.step.specs.Step.{image_box}
+use Rattle.step.proofs.Imaged.{m-in, asked, image-is}
+use Rattle.step.proofs.Filled.{room-zero, filled_none, filled_more}
+use Rattle.step.proofs.Filled.{filled-values, filled-slopes, filled-room}
+use Rattle.run.specs.Run.{run_of}
+use Rattle.run.proofs.Turns.{turned, run-turn, run_end, next-box}
+use mathlib.Core.List.{List}
+use Prim.Native.Nat.{ℕ}
+use lib.IntN.{ℤ}
+use Rattle.intervals.specs.Interval.{point_i}
+use Rattle.intervals.specs.Places.{cell_at, vector_of}
+use Rattle.intervals.specs.declared.Interval.{Interval}
+use Rattle.jobs.specs.declared.Equation.{Equation}
+use Rattle.step.specs.Ranges.{StepIn}
+use Rattle.step.specs.Step.{middle_of, image_from}
+use Rattle.run.proofs.run_steps.Goals as goal
+
+-- K, from what a turn has made
+imaged : (n : ℕ) (q : ℕ → Equation) (C : ℕ → ℕ → ℤ) (x m f : List Interval) (s : List (List Interval)) {k : List Interval}
+    → StepIn n q C (side_at x) → m ≡ vector_of n (λ i. point_i (middle_of (side_at x) i))
+    → f ≡ values_over n q (side_at m) → s ≡ slopes_over n q (side_at x)
+    → k ≡ vector_of n (image_from n C (side_at x) (side_at m) (side_at f) (cell_at s)) → k ≡ image_box n q C x
+unfolding image_box
+imaged n q C x m f s h a b d e = e ∙ image-is h a b d
+
+pub loop-done-init : goal.loop-done-init
+loop-done-init c = ((omega arith, room-zero _), (c.requires, rw sub-zero))
+
+-- the allowance is used up
+pub ended-requires-2 : goal.ended-requires-2
+ended-requires-2 c = search rules
+
+pub returns : goal.returns
+returns c =
+    let l = c.loop-done in
+    c.ended-2.ensures ∙ sym (sym l.invariant.1.1 ∙ run_end _ _ _ _ _ _ l.invariant.0.0 (omega arith))
+
+-- ---- a turn
+pub middles-m-requires : goal.middles-m-requires
+middles-m-requires c = c.loop-done.invariant.1.0.box
+
+-- F and S
+pub loop-i-init : goal.loop-i-init
+loop-i-init c = filled_none _ _ _ _ c.loop-done.invariant.0.1
+
+pub offset_bounds-eqs-i : goal.offset_bounds-eqs-i
+offset_bounds-eqs-i c = let p = c.loop-done.invariant.1.0.box.places in omega arith
+
+pub bounds-eqs-i : goal.bounds-eqs-i
+bounds-eqs-i c = let p = c.loop-done.invariant.1.0.box.places in omega arith
+
+pub equation_over-o-requires : goal.equation_over-o-requires
+equation_over-o-requires c =
+    let h = c.loop-done.invariant.1.0 in record { box_in = m-in h c.middles-m.ensures; box_in_2 = h.box; equation_in = h.system.each c.loop-i.i c.loop-i-test.true }
+
+pub offset_bounds-f-i : goal.offset_bounds-f-i
+offset_bounds-f-i c = omega (arith, c.loop-done.invariant.1.0.box.places)
+
+pub bounds-f-i : goal.bounds-f-i
+bounds-f-i c = omega (arith, c.loop-done.invariant.1.0.box.places)
+
+pub offset_bounds-s-i : goal.offset_bounds-s-i
+offset_bounds-s-i c = omega (arith, c.loop-done.invariant.1.0.box.places)
+
+pub bounds-s-i : goal.bounds-s-i
+bounds-s-i c = omega (arith, c.loop-done.invariant.1.0.box.places)
+
+pub loop-i-preserved : goal.loop-i-preserved
+loop-i-preserved c =
+    filled_more _ _ _ _ c.loop-i.invariant c.loop-i-test.true c.equation_over-o.ensures
+
+-- K
+pub image-k-requires : goal.image-k-requires
+image-k-requires c =
+    asked c.loop-done.invariant.1.0 c.middles-m.ensures (filled-values _ _ _ _ c.loop-i.invariant c.loop-i-test.false) (filled-slopes _ _ _ _ c.loop-i.invariant c.loop-i-test.false)
+
+pub decide-d-requires : goal.decide-d-requires
+decide-d-requires c = c.loop-done.invariant.1.0.box.places
+
+pub returns-in-None : goal.returns-in-None
+returns-in-None c =
+    let image = imaged c.args.n (equation_at c.args.eqs) (entry_at c.args.c) c.loop-done.x c.middles-m.result c.loop-i.f
+    c.loop-i.s c.loop-done.invariant.1.0 c.middles-m.ensures (filled-values _ _ _ _ c.loop-i.invariant c.loop-i-test.false)
+    (filled-slopes _ _ _ _ c.loop-i.invariant c.loop-i-test.false) c.image-k.ensures in
+    let decided = run-turn _ _ _ c.args.allowance c.loop-done.done c.loop-done.x (omega arith) image c.decide-d.ensures
+    c.loop-done.invariant.1.1 in
+    c.ended.ensures ∙ sym (rw c.in-None.is at decided)
+
+pub returns-in-Unique : goal.returns-in-Unique
+returns-in-Unique c =
+    let image = imaged c.args.n (equation_at c.args.eqs) (entry_at c.args.c) c.loop-done.x c.middles-m.result c.loop-i.f
+    c.loop-i.s c.loop-done.invariant.1.0 c.middles-m.ensures (filled-values _ _ _ _ c.loop-i.invariant c.loop-i-test.false)
+    (filled-slopes _ _ _ _ c.loop-i.invariant c.loop-i-test.false) c.image-k.ensures in
+    let decided = run-turn _ _ _ c.args.allowance c.loop-done.done c.loop-done.x (omega arith) image c.decide-d.ensures
+    c.loop-done.invariant.1.1 in
+    c.ended-in-Unique.ensures ∙ sym (rw c.in-Unique.is at decided)
+
+pub returns-in-Stalled : goal.returns-in-Stalled
+returns-in-Stalled c =
+    let image = imaged c.args.n (equation_at c.args.eqs) (entry_at c.args.c) c.loop-done.x c.middles-m.result c.loop-i.f
+    c.loop-i.s c.loop-done.invariant.1.0 c.middles-m.ensures (filled-values _ _ _ _ c.loop-i.invariant c.loop-i-test.false)
+    (filled-slopes _ _ _ _ c.loop-i.invariant c.loop-i-test.false) c.image-k.ensures in
+    let decided = run-turn _ _ _ c.args.allowance c.loop-done.done c.loop-done.x (omega arith) image c.decide-d.ensures
+    c.loop-done.invariant.1.1 in
+    c.ended-in-Stalled.ensures ∙ sym (rw c.in-Stalled.is at decided)
+
+pub loop-done-preserved : goal.loop-done-preserved
+loop-done-preserved c =
+    let image = imaged c.args.n (equation_at c.args.eqs) (entry_at c.args.c) c.loop-done.x c.middles-m.result c.loop-i.f
+    c.loop-i.s c.loop-done.invariant.1.0 c.middles-m.ensures (filled-values _ _ _ _ c.loop-i.invariant c.loop-i-test.false)
+    (filled-slopes _ _ _ _ c.loop-i.invariant c.loop-i-test.false) c.image-k.ensures in
+    let decided = run-turn _ _ _ c.args.allowance c.loop-done.done c.loop-done.x (omega arith) image c.decide-d.ensures
+    c.loop-done.invariant.1.1 in
+    let l = c.loop-done in
+    let box = next-box l.x l.invariant.1.0 image c.decide-d.ensures c.in-Next.is in (
+      (omega arith, filled-room _ _ _ _ c.loop-i.invariant c.loop-i-test.false),
+      (
+        record { system = l.invariant.1.0.system; inverse = l.invariant.1.0.inverse; box = box },
+        sym (rw c.in-Next.is at decided),
+      ),
+    )

@@ -1,0 +1,10 @@
+-- `slips::numbers::numbers` meets its contract.
+use Prim.Native.Nat.{◌-◌, ◌≤◌}
+use lib.ListN.{length}
+use Rattle.slips.proofs.numbers.numbers.Given as goal
+
+abbrev pub invariant-loop-a : goal.invariant-loop-a
+invariant-loop-a l = (l.a ≤ length l.text) × (l.count ≤ l.a)
+
+abbrev pub decreases-loop-a : goal.decreases-loop-a
+decreases-loop-a l = length l.text - l.a
