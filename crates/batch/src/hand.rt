@@ -3,6 +3,7 @@ ghost use Rattle.std.specs.Prelude.{◌≤◌, ◌≡◌, length};
 ghost use Rattle.batch.specs.Hand.{out_max, InHand, Nothing};
 
 use answers::{ROOM, put_answer};
+use std::io::Write;
 use streams::outcomes::Outcome;
 use streams::put;
 
@@ -44,7 +45,7 @@ pub fn ended(outcome: Outcome) -> Hand
 }
 
 // What fills a block is written.
-pub fn flushed(out: &[u8], h: Hand) -> Hand
+pub fn flushed<W: Write>(writer: &mut W, out: &[u8], h: Hand) -> Hand
     requires at_le_end { h.at ≤ h.end }
     requires used_in_bounds { h.used ≤ length out.now }
     ensures { InHand result h.end }
@@ -53,14 +54,14 @@ pub fn flushed(out: &[u8], h: Hand) -> Hand
     if used <= BLOCK {
         return h;
     }
-    if put(&out[0..used]) {
-        return going(h.at, h.end, 0);
+    match put(writer, &out[0..used]) {
+        Ok(()) => going(h.at, h.end, 0),
+        Err(e) => ended(Outcome::Unwritten(e)),
     }
-    ended(Outcome::Unwritten)
 }
 
 // The first n bytes of the room are an answer.
-pub fn add(out: &mut [u8], h: Hand, room: &[u8; ROOM], n: usize) -> Hand
+pub fn add<W: Write>(writer: &mut W, out: &mut [u8], h: Hand, room: &[u8; ROOM], n: usize) -> Hand
     requires in_hand { InHand h h.end }
     requires out_max_in_bounds { out_max ≤ length out.old }
     requires n_in_bounds { n ≤ length room.now }
@@ -68,5 +69,5 @@ pub fn add(out: &mut [u8], h: Hand, room: &[u8; ROOM], n: usize) -> Hand
 {
     let whole = &room[..];
     let used = put_answer(out, h.used, &whole[0..n]);
-    flushed(out, going(h.at, h.end, used))
+    flushed(writer, out, going(h.at, h.end, used))
 }

@@ -4,6 +4,7 @@ ghost use Rattle.batch.specs.Hand.{out_max, InHand, Nothing};
 
 use crate::hand::{Hand, ended, going};
 use crate::refusals::{at_end, bad_text};
+use std::io::{Read, Write};
 use streams::outcomes::Outcome;
 use streams::{put, read_some};
 
@@ -23,22 +24,28 @@ fn to_front(have: &mut [u8], at: usize, end: usize) -> usize
 }
 
 // More of the input behind what is at hand, once the answers are written.
-pub fn more(fd: i32, have: &mut [u8], out: &[u8], h: Hand) -> Hand
+pub fn more<R: Read, W: Write>(
+    reader: &mut R,
+    writer: &mut W,
+    have: &mut [u8],
+    out: &[u8],
+    h: Hand,
+) -> Hand
     requires in_hand { InHand h (length have.old) }
     requires out_max_in_bounds { out_max ≤ length out.now }
     ensures { InHand result (length have.old) }
 {
     let used = h.used;
-    if !put(&out[0..used]) {
-        return ended(Outcome::Unwritten);
+    if let Err(e) = put(writer, &out[0..used]) {
+        return ended(Outcome::Unwritten(e));
     }
     let n = to_front(have, h.at, h.end);
-    let came = read_some(fd, &mut have[n..]);
-    if came.failed {
-        return ended(Outcome::Unread);
+    let came = read_some(reader, &mut have[n..]);
+    if let Some(e) = came.failed {
+        return ended(Outcome::Unread(e));
     }
     if came.n == 0 {
-        return at_end(&have[0..n]);
+        return at_end(writer, &have[0..n]);
     }
     going(0, n + came.n, 0)
 }
@@ -52,18 +59,18 @@ fn least(left: u64, room: usize) -> usize
     room
 }
 
-fn skip(fd: i32, have: &mut [u8], length: u64) -> Hand
+fn skip<R: Read, W: Write>(reader: &mut R, writer: &mut W, have: &mut [u8], length: u64) -> Hand
     ensures { Nothing result }
 {
     let mut left = length;
     while left > 0 {
         let want = least(left, have.len());
-        let came = read_some(fd, &mut have[0..want]);
-        if came.failed {
-            return ended(Outcome::Unread);
+        let came = read_some(reader, &mut have[0..want]);
+        if let Some(e) = came.failed {
+            return ended(Outcome::Unread(e));
         }
         if came.n == 0 {
-            return bad_text();
+            return bad_text(writer);
         }
         left -= came.n as u64;
     }
@@ -71,7 +78,14 @@ fn skip(fd: i32, have: &mut [u8], length: u64) -> Hand
 }
 
 // Behind what is kept of a text, `passed` bytes are passed over.
-pub fn pass(fd: i32, have: &mut [u8], out: &[u8], h: Hand, passed: u64) -> Hand
+pub fn pass<R: Read, W: Write>(
+    reader: &mut R,
+    writer: &mut W,
+    have: &mut [u8],
+    out: &[u8],
+    h: Hand,
+    passed: u64,
+) -> Hand
     requires in_hand { InHand h (length have.old) }
     requires out_max_in_bounds { out_max ≤ length out.now }
     ensures { InHand result (length have.old) }
@@ -81,8 +95,8 @@ pub fn pass(fd: i32, have: &mut [u8], out: &[u8], h: Hand, passed: u64) -> Hand
         return going(h.at + passed as usize, h.end, h.used);
     }
     let used = h.used;
-    if !put(&out[0..used]) {
-        return ended(Outcome::Unwritten);
+    if let Err(e) = put(writer, &out[0..used]) {
+        return ended(Outcome::Unwritten(e));
     }
-    skip(fd, have, passed - here)
+    skip(reader, writer, have, passed - here)
 }

@@ -22,6 +22,7 @@ use requests::packets::{HEADER, Packet, Seen, look};
 use requests::{Call, Op};
 use rooms::TABLE;
 use sizes::TEXT;
+use std::io::{Read, Write};
 use streams::outcomes::Outcome;
 
 const IN: usize = HEADER + TEXT + 1 + BLOCK;
@@ -62,8 +63,9 @@ fn answer_call(
 }
 
 // The answer, n bytes of the room, is added once all of its request has come.
-fn finish(
-    fd: i32,
+fn finish<R: Read, W: Write>(
+    reader: &mut R,
+    writer: &mut W,
     have: &mut [u8],
     out: &mut [u8],
     room: &[u8; ROOM],
@@ -77,15 +79,23 @@ fn finish(
     requires n_in_bounds { n ≤ length room.now }
     ensures { InHand result (length have.old) }
 {
-    let next = pass(fd, have, out, going(h.at + p.to, h.end, h.used), p.passed);
+    let next = pass(
+        reader,
+        writer,
+        have,
+        out,
+        going(h.at + p.to, h.end, h.used),
+        p.passed,
+    );
     if next.going {
-        return add(out, next, room, n);
+        return add(writer, out, next, room, n);
     }
     next
 }
 
-fn ask(
-    fd: i32,
+fn ask<R: Read, W: Write>(
+    reader: &mut R,
+    writer: &mut W,
     have: &mut [u8],
     out: &mut [u8],
     room: &mut [u8; ROOM],
@@ -103,12 +113,13 @@ fn ask(
     let from = at + p.from;
     let to = at + p.to;
     let n = answer(op, &have[at..words], &have[from..to], room);
-    finish(fd, have, out, room, h, p, n)
+    finish(reader, writer, have, out, room, h, p, n)
 }
 
 // The same of a call on the table of rooms.
-fn ask_call(
-    fd: i32,
+fn ask_call<R: Read, W: Write>(
+    reader: &mut R,
+    writer: &mut W,
     have: &mut [u8],
     out: &mut [u8],
     room: &mut [u8; ROOM],
@@ -127,12 +138,13 @@ fn ask_call(
     let from = at + p.from;
     let to = at + p.to;
     let n = answer_call(call, table, &have[at..words], &have[from..to], room);
-    finish(fd, have, out, room, h, p, n)
+    finish(reader, writer, have, out, room, h, p, n)
 }
 
 // The same of a listing, into a list of as many numbers as the request gives it room for.
-fn ask_list(
-    fd: i32,
+fn ask_list<R: Read, W: Write>(
+    reader: &mut R,
+    writer: &mut W,
     have: &mut [u8],
     out: &mut [u8],
     h: Hand,
@@ -148,14 +160,28 @@ fn ask_list(
     let from = h.at + p.from;
     let to = h.at + p.to;
     let l = list_text(&have[from..to], depth, list);
-    let next = pass(fd, have, out, going(to, h.end, h.used), p.passed);
+    let next = pass(
+        reader,
+        writer,
+        have,
+        out,
+        going(to, h.end, h.used),
+        p.passed,
+    );
     if next.going {
-        return add_listing(out, next, l, list);
+        return add_listing(writer, out, next, l, list);
     }
     next
 }
 
-fn ask_boxes(fd: i32, have: &mut [u8], out: &mut [u8], h: Hand, p: Packet) -> Hand
+fn ask_boxes<R: Read, W: Write>(
+    reader: &mut R,
+    writer: &mut W,
+    have: &mut [u8],
+    out: &mut [u8],
+    h: Hand,
+    p: Packet,
+) -> Hand
     requires in_hand { InHand h (length have.old) }
     requires out_max_in_bounds { out_max ≤ length out.old }
     requires words_le_from { (p.words ≤ p.from) × (p.from ≤ p.to) × (h.at + p.to ≤ h.end) }
@@ -166,12 +192,22 @@ fn ask_boxes(fd: i32, have: &mut [u8], out: &mut [u8], h: Hand, p: Packet) -> Ha
     let deep = deep_asked(&have[at..words]);
     let numbers = LISTED * deep.room;
     let mut list = [0i64; NUMBERS];
-    ask_list(fd, have, out, h, p, deep.depth, &mut list[0..numbers])
+    ask_list(
+        reader,
+        writer,
+        have,
+        out,
+        h,
+        p,
+        deep.depth,
+        &mut list[0..numbers],
+    )
 }
 
 // What the bytes at hand ask for next.
-fn turn(
-    fd: i32,
+fn turn<R: Read, W: Write>(
+    reader: &mut R,
+    writer: &mut W,
     have: &mut [u8],
     out: &mut [u8],
     room: &mut [u8; ROOM],
@@ -187,17 +223,17 @@ fn turn(
     let p = look(&have[at..end]);
     let seen = p.seen;
     match seen {
-        Seen::More => more(fd, have, out, h),
-        Seen::Bad => bad_request(out, h),
-        Seen::Ask(op) => ask(fd, have, out, room, h, op, p),
-        Seen::List => ask_boxes(fd, have, out, h, p),
-        Seen::Call(call) => ask_call(fd, have, out, room, table, h, call, p),
+        Seen::More => more(reader, writer, have, out, h),
+        Seen::Bad => bad_request(writer, out, h),
+        Seen::Ask(op) => ask(reader, writer, have, out, room, h, op, p),
+        Seen::List => ask_boxes(reader, writer, have, out, h, p),
+        Seen::Call(call) => ask_call(reader, writer, have, out, room, table, h, call, p),
     }
 }
 
 // Nothing says that the input ends, so the turns are counted down from a number that no run uses up. The room of an
 // answer is made once, so that no request clears it, and so is the table of rooms, of which all are free.
-pub fn all(fd: i32) -> Outcome {
+pub fn all<R: Read, W: Write>(reader: &mut R, writer: &mut W) -> Outcome {
     let mut have = in_block();
     let mut out = out_block();
     let mut room = [0u8; ROOM];
@@ -205,7 +241,9 @@ pub fn all(fd: i32) -> Outcome {
     let mut h = going(0, 0, 0);
     let mut turns = u64::MAX;
     while turns > 0 && h.going {
-        h = turn(fd, &mut have, &mut out, &mut room, &mut table, h);
+        h = turn(
+            reader, writer, &mut have, &mut out, &mut room, &mut table, h,
+        );
         turns -= 1;
     }
     h.outcome

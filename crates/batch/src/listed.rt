@@ -8,6 +8,7 @@ use crate::hand::{Hand, add, flushed, going};
 use answers::{ROOM, tell};
 use faults::{Status, Written};
 use listing::{Listing, put_all, put_box, put_head};
+use std::io::Write;
 use writing::put_count_line;
 
 // How many bytes all pieces have: none of them is kept.
@@ -19,54 +20,67 @@ fn measured(l: Listing, list: &[i64]) -> usize
 }
 
 // The length of all pieces on a line, and the first.
-fn add_head(out: &mut [u8], h: Hand, l: Listing, bytes: usize) -> Hand
+fn add_head<W: Write>(writer: &mut W, out: &mut [u8], h: Hand, l: Listing, bytes: usize) -> Hand
     requires in_hand { InHand h h.end }
     requires out_max_in_bounds { out_max ≤ length out.old }
     ensures { InHand result h.end }
 {
     let first = put_count_line(out, h.used, b"", bytes as u64);
     let used = put_head(out, first, l);
-    flushed(out, going(h.at, h.end, used))
+    flushed(writer, out, going(h.at, h.end, used))
 }
 
-fn add_box(out: &mut [u8], h: Hand, n: usize, list: &[i64], i: usize) -> Hand
+fn add_box<W: Write>(
+    writer: &mut W,
+    out: &mut [u8],
+    h: Hand,
+    n: usize,
+    list: &[i64],
+    i: usize,
+) -> Hand
     requires in_hand { InHand h h.end }
     requires out_max_in_bounds { out_max ≤ length out.old }
     requires entry_in { EntryIn n list.now i }
     ensures { InHand result h.end }
 {
     let used = put_box(out, h.used, n, list, i);
-    flushed(out, going(h.at, h.end, used))
+    flushed(writer, out, going(h.at, h.end, used))
 }
 
 // The pieces behind the answers that wait.
-fn add_boxes(out: &mut [u8], h: Hand, l: Listing, list: &[i64]) -> Hand
+fn add_boxes<W: Write>(writer: &mut W, out: &mut [u8], h: Hand, l: Listing, list: &[i64]) -> Hand
     requires in_hand { InHand h h.end }
     requires out_max_in_bounds { out_max ≤ length out.old }
     requires readable { Readable l list.now }
     ensures { InHand result h.end }
 {
     let bytes = measured(l, list);
-    let mut next = add_head(out, h, l, bytes);
+    let mut next = add_head(writer, out, h, l, bytes);
     let mut i = 0;
     while i < l.boxes && next.going {
-        next = add_box(out, next, l.n, list, i);
+        next = add_box(writer, out, next, l.n, list, i);
         i += 1;
     }
     next
 }
 
-fn add_fault(out: &mut [u8], h: Hand, status: Status) -> Hand
+fn add_fault<W: Write>(writer: &mut W, out: &mut [u8], h: Hand, status: Status) -> Hand
     requires in_hand { InHand h h.end }
     requires out_max_in_bounds { out_max ≤ length out.old }
     ensures { InHand result h.end }
 {
     let mut room = [0u8; ROOM];
     let n = tell(Written { status, len: 0 }, &mut room);
-    add(out, h, &room, n)
+    add(writer, out, h, &room, n)
 }
 
-pub fn add_listing(out: &mut [u8], h: Hand, l: Listing, list: &[i64]) -> Hand
+pub fn add_listing<W: Write>(
+    writer: &mut W,
+    out: &mut [u8],
+    h: Hand,
+    l: Listing,
+    list: &[i64],
+) -> Hand
     requires in_hand { InHand h h.end }
     requires out_max_in_bounds { out_max ≤ length out.old }
     requires readable { Readable l list.now }
@@ -74,7 +88,7 @@ pub fn add_listing(out: &mut [u8], h: Hand, l: Listing, list: &[i64]) -> Hand
 {
     let status = l.status;
     match status {
-        Status::Done => add_boxes(out, h, l, list),
-        Status::Refused(f, line) => add_fault(out, h, Status::Refused(f, line)),
+        Status::Done => add_boxes(writer, out, h, l, list),
+        Status::Refused(f, line) => add_fault(writer, out, h, Status::Refused(f, line)),
     }
 }

@@ -3,14 +3,16 @@ ghost use Rattle.std.specs.Prelude.{◌≤◌, length};
 ghost use Rattle.batch.specs.Hand.{Nothing};
 
 use crate::hand::{Hand, ended};
+use std::io::Write;
 use streams::outcomes::{Outcome, written};
 use streams::put;
 use text::piece_end;
 
-fn bad_line() -> Hand
+fn bad_line<W: Write>(writer: &mut W) -> Hand
     ensures { Nothing result }
 {
     let whole = put(
+        writer,
         b"error=expected a line of solve, job, result, parts L1,L2,.., image, image LO HI, \
         decide N LO HI KLO KHI, halve DEPTH ROOM, clear, open, step SLOT VISIT, reading SLOT VISIT ROOM \
         or close SLOT VISIT, and a length in digits (decide, clear, step, reading, close: 0), \
@@ -19,33 +21,36 @@ fn bad_line() -> Hand
     ended(written(whole, Outcome::NotRun))
 }
 
-pub fn bad_text() -> Hand
+pub fn bad_text<W: Write>(writer: &mut W) -> Hand
     ensures { Nothing result }
 {
-    let whole = put(b"error=expected as many bytes of text as the length says\n");
+    let whole = put(
+        writer,
+        b"error=expected as many bytes of text as the length says\n",
+    );
     ended(written(whole, Outcome::NotRun))
 }
 
-pub fn bad_request(out: &[u8], h: Hand) -> Hand
+pub fn bad_request<W: Write>(writer: &mut W, out: &[u8], h: Hand) -> Hand
     requires { h.used ≤ length out.now }
     ensures { Nothing result }
 {
     let used = h.used;
-    if put(&out[0..used]) {
-        return bad_line();
+    match put(writer, &out[0..used]) {
+        Ok(()) => bad_line(writer),
+        Err(e) => ended(Outcome::Unwritten(e)),
     }
-    ended(Outcome::Unwritten)
 }
 
 // The input has ended, and these bytes are at hand.
-pub fn at_end(have: &[u8]) -> Hand
+pub fn at_end<W: Write>(writer: &mut W, have: &[u8]) -> Hand
     ensures { Nothing result }
 {
     if have.len() == 0 {
         return ended(Outcome::Answered);
     }
     if piece_end(have, 0, b'\n') < have.len() {
-        return bad_text();
+        return bad_text(writer);
     }
-    bad_line()
+    bad_line(writer)
 }

@@ -1,8 +1,8 @@
 // The commands, and what is said of a call that names none of them.
 use crate::help;
-use libc::STDERR_FILENO;
 use people::How;
 use requests::Op;
+use std::io::Write;
 use streams::outcomes::Outcome;
 use streams::say;
 use text::same_bytes;
@@ -61,26 +61,29 @@ pub fn command_of(word: &[u8]) -> Command {
 }
 
 // The help stands behind what is said of a wrong call.
-pub fn wrong_call() -> Outcome {
-    help::commands(STDERR_FILENO);
+pub fn wrong_call<E: Write>(err: &mut E) -> Outcome {
+    let _ = help::commands(err);
     Outcome::NotRun
 }
 
-pub fn unknown(word: &[u8]) -> Outcome {
-    say(b"floodrafter: there is no command '");
-    say(word);
-    say(b"'\n");
-    wrong_call()
+pub fn unknown<E: Write>(err: &mut E, word: &[u8]) -> Outcome {
+    say(err, b"floodrafter: there is no command '");
+    say(err, word);
+    say(err, b"'\n");
+    wrong_call(err)
 }
 
-pub fn no_depth(word: &[u8]) -> Outcome {
-    say(b"floodrafter: expected a depth after halve, a whole number, not '");
-    say(word);
-    say(b"'\n");
-    wrong_call()
+pub fn no_depth<E: Write>(err: &mut E, word: &[u8]) -> Outcome {
+    say(
+        err,
+        b"floodrafter: expected a depth after halve, a whole number, not '",
+    );
+    say(err, word);
+    say(err, b"'\n");
+    wrong_call(err)
 }
 
-pub fn too_many() -> Outcome {
-    say(b"floodrafter: too many arguments\n");
-    wrong_call()
+pub fn too_many<E: Write>(err: &mut E) -> Outcome {
+    say(err, b"floodrafter: too many arguments\n");
+    wrong_call(err)
 }

@@ -7,7 +7,7 @@ use Rattle.halving.specs.Lists.{numbers_of}
 use Rattle.halving.specs.Halving.{list_after}
 use Rattle.listing.specs.declared.Listing.{Listing}
 use Rattle.listing.specs.Listing.{listing_by, list_status}
-use Rattle.floodrafter_c.specs.declared.lists.Boxes.{Boxes}
+use Rattle.floodrafter_c.specs.declared.listed.Boxes.{Boxes}
 
 abbrev pub numbers_listed : Listing → Boxes
 numbers_listed l = record {

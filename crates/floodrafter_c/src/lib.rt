@@ -1,7 +1,7 @@
 // For C: a text is a pointer and a length, an answer three numbers. `include/floodrafter.h` is the other side.
 #![tactic(auto)]
 
-pub mod lists;
+pub mod listed;
 pub mod parts;
 pub mod screens;
 pub mod steps;

@@ -14,6 +14,7 @@ use listing::list_text;
 use requests::Op;
 use sentences::{SENTENCE, explain_job, explain_result};
 use sizes::{DEPTH, TEXT};
+use std::io::{Read, Write};
 use streams::outcomes::Outcome;
 use streams::{fill, put, say, say_number};
 
@@ -59,84 +60,110 @@ fn explain(res: bool, text: &[u8], out: &mut [u8]) -> usize
 }
 
 // The depth, as it was typed.
-fn say_depth() {
-    let mut word = io::buffer();
-    let n = os::arg(DEPTH_PLACE, &mut word);
-    say(b"the depth is ");
-    say(&word[..n]);
-    say(b": it lies from 0 to ");
-    say_number(DEPTH);
+fn say_depth<E: Write>(err: &mut E, typed: &[u8]) {
+    say(err, b"the depth is ");
+    say(err, typed);
+    say(err, b": it lies from 0 to ");
+    say_number(err, DEPTH);
 }
 
 // A text without a fault has no sentence: then it is the depth that was refused.
-fn say_sentence(sentence: &[u8]) {
+fn say_sentence<E: Write>(err: &mut E, sentence: &[u8], typed: &[u8]) {
     if sentence.len() == 0 {
-        say_depth();
+        say_depth(err, typed);
     }
-    say(sentence);
-    say(b"\n");
+    say(err, sentence);
+    say(err, b"\n");
 }
 
 // On standard error, as `job.txt:8: fault 6: ..`.
-fn tell_fault(res: bool, status: Status, name: &[u8], text: &[u8]) -> Outcome {
+fn tell_fault<E: Write>(
+    err: &mut E,
+    res: bool,
+    status: Status,
+    name: &[u8],
+    typed: &[u8],
+    text: &[u8],
+) -> Outcome {
     match status {
         Status::Done => Outcome::Answered,
         Status::Refused(f, line) => {
             let mut sentence = [0u8; SENTENCE];
             let n = explain(res, text, &mut sentence);
-            say(name);
+            say(err, name);
             if line > 0 {
-                say(b":");
-                say_number(line);
+                say(err, b":");
+                say_number(err, line);
             }
-            say(b": fault ");
-            say_number(faults::fault_number(f));
-            say(b": ");
-            say_sentence(&sentence[0..n]);
+            say(err, b": fault ");
+            say_number(err, faults::fault_number(f));
+            say(err, b": ");
+            say_sentence(err, &sentence[0..n], typed);
             Outcome::Fault
         }
     }
 }
 
-fn list(depth: i64, text: &[u8], name: &[u8], list: &mut [i64]) -> Outcome {
+fn list<W: Write, E: Write>(
+    out: &mut W,
+    err: &mut E,
+    depth: i64,
+    typed: &[u8],
+    text: &[u8],
+    name: &[u8],
+    list: &mut [i64],
+) -> Outcome {
     let l = list_text(text, depth, list);
     let status = l.status;
     let whole = match status {
-        Status::Done => print(l, list),
-        Status::Refused(f, line) => print_fault(Status::Refused(f, line)),
+        Status::Done => print(out, l, list),
+        Status::Refused(f, line) => print_fault(out, Status::Refused(f, line)),
     };
-    if whole {
-        return tell_fault(false, status, name, text);
+    match whole {
+        Ok(()) => tell_fault(err, false, status, name, typed, text),
+        Err(e) => Outcome::Unwritten(e),
     }
-    Outcome::Unwritten
 }
 
-// All closing positions of a job text.
-pub fn halve(depth: i64, fd: i32, name: &[u8]) -> Outcome {
+// All closing positions of a job text. The depth was typed as these bytes.
+pub fn halve<R: Read, W: Write, E: Write>(
+    reader: &mut R,
+    out: &mut W,
+    err: &mut E,
+    depth: i64,
+    typed: &[u8],
+    name: &[u8],
+) -> Outcome {
     let mut buf = [0u8; TEXT + 1];
-    let came = fill(fd, &mut buf);
-    if came.failed {
-        return Outcome::Unread;
+    let came = fill(reader, &mut buf);
+    if let Some(e) = came.failed {
+        return Outcome::Unread(e);
     }
     let n = came.n;
     let mut numbers = [0i64; NUMBERS];
-    list(depth, &buf[0..n], name, &mut numbers)
+    list(out, err, depth, typed, &buf[0..n], name, &mut numbers)
 }
 
 // Of a text that is too long, one byte more than may be is read.
-pub fn one(how: How, fd: i32, name: &[u8]) -> Outcome {
+pub fn one<R: Read, W: Write, E: Write>(
+    reader: &mut R,
+    out: &mut W,
+    err: &mut E,
+    how: How,
+    name: &[u8],
+) -> Outcome {
     let mut buf = [0u8; TEXT + 1];
-    let came = fill(fd, &mut buf);
-    if came.failed {
-        return Outcome::Unread;
+    let came = fill(reader, &mut buf);
+    if let Some(e) = came.failed {
+        return Outcome::Unread(e);
     }
     let n = came.n;
-    let mut out = [0u8; ROOM];
-    let a = answer(how, &buf[0..n], &mut out);
+    let mut room = [0u8; ROOM];
+    let a = answer(how, &buf[0..n], &mut room);
     let status = a.status;
-    let k = tell(a, &mut out);
-    if put(&out[0..k]) {
-        return tell_fault(reads_result(how), status, name, &buf[0..n]);
+    let k = tell(a, &mut room);
+    match put(out, &room[0..k]) {
+        Ok(()) => tell_fault(err, reads_result(how), status, name, b"", &buf[0..n]),
+        Err(e) => Outcome::Unwritten(e),
     }
-    Outcome::Unwritten
 }

@@ -1,41 +1,43 @@
-// A listing on standard output, piece by piece; false where some cannot be written.
+// A listing on standard output, piece by piece; an error where some cannot be written.
 ghost use Rattle.listing.specs.Lines.{EntryIn};
 ghost use Rattle.listing.specs.Listing.{Readable};
 
 use answers::{ROOM, tell};
 use faults::{Status, Written};
 use listing::{Listing, put_box, put_head};
+use std::io;
+use std::io::Write;
 use streams::put;
 
 // A fault's two lines.
-pub fn print_fault(status: Status) -> bool {
+pub fn print_fault<W: Write>(out: &mut W, status: Status) -> io::Result<()> {
     let mut room = [0u8; ROOM];
     let n = tell(Written { status, len: 0 }, &mut room);
-    put(&room[0..n])
+    put(out, &room[0..n])
 }
 
-fn print_head(l: Listing) -> bool {
+fn print_head<W: Write>(out: &mut W, l: Listing) -> io::Result<()> {
     let mut piece = [0u8; ROOM];
     let n = put_head(&mut piece, 0, l);
-    put(&piece[0..n])
+    put(out, &piece[0..n])
 }
 
-fn print_box(n: usize, list: &[i64], i: usize) -> bool
+fn print_box<W: Write>(out: &mut W, n: usize, list: &[i64], i: usize) -> io::Result<()>
     requires { EntryIn n list.now i }
 {
     let mut piece = [0u8; ROOM];
     let n = put_box(&mut piece, 0, n, list, i);
-    put(&piece[0..n])
+    put(out, &piece[0..n])
 }
 
-pub fn print(l: Listing, list: &[i64]) -> bool
+pub fn print<W: Write>(out: &mut W, l: Listing, list: &[i64]) -> io::Result<()>
     requires { Readable l list.now }
 {
-    let mut whole = print_head(l);
+    print_head(out, l)?;
     let mut i = 0;
-    while i < l.boxes && whole {
-        whole = print_box(l.n, list, i);
+    while i < l.boxes {
+        print_box(out, l.n, list, i)?;
         i += 1;
     }
-    whole
+    Ok(())
 }

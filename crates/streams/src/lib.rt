@@ -3,97 +3,69 @@
 #![tactic(auto)]
 
 pub mod outcomes;
+pub mod standard;
 
-ghost use Rattle.std.specs.Prelude.{◌≤◌, length};
+ghost use Rattle.std.specs.Prelude.{◌≤◌, length, take, IfOk, OnErr, OnOk};
+ghost use Rattle.std.specs.Io.KnownBytes.{Appends, Keeps};
 
-use libc::{EAGAIN, EINTR, STDERR_FILENO, STDIN_FILENO, STDOUT_FILENO};
+use itoa::Buffer;
+use std::io;
+use std::io::{Error, ErrorKind, Read, Write};
+use std::thread::yield_now;
 
 // How many bytes came, none where the input has ended or the read failed.
 #[derive(Clone, Copy)]
 pub struct Came {
     pub n: usize,
-    pub failed: bool,
+    pub failed: Option<Error>,
 }
 
-// A call that fails so is made again.
-fn passing(error: i32) -> bool {
-    error == EINTR || error == EAGAIN
-}
-
-// The standard streams by their names. A stream that does not wait is shared with who set it so; opened anew, a pipe
-// and a terminal wait.
-fn open_anew(fd: i32) -> i32 {
-    if fd == STDIN_FILENO {
-        return os::open_read(b"/proc/self/fd/0");
-    }
-    if fd == STDOUT_FILENO {
-        return os::open_append(b"/proc/self/fd/1");
-    }
-    if fd == STDERR_FILENO {
-        return os::open_append(b"/proc/self/fd/2");
-    }
-    -1
-}
-
-// What waits in place of fd, which was not ready. Where it cannot be opened, as a socket, others run first.
-fn in_place(fd: i32, error: i32) -> i32 {
-    if error == EINTR {
-        return -1;
-    }
-    let anew = open_anew(fd);
-    if anew < 0 {
-        libc::sched_yield();
-    }
-    anew
-}
-
-fn read_waiting(fd: i32, error: i32, buf: &mut [u8]) -> isize {
-    let anew = in_place(fd, error);
-    if anew < 0 {
-        return -1;
-    }
-    let got = libc::read(anew, buf);
-    libc::close(anew);
-    got
-}
-
-// Nothing says that such calls end, so the turns are counted down from a number that no run uses up.
-fn read_once(fd: i32, buf: &mut [u8]) -> isize {
-    let mut turns = u64::MAX;
-    while turns > 0 {
-        let got = libc::read(fd, buf);
-        if got >= 0 {
-            return got;
+// A call that fails so is made again. Others run before one that was not ready.
+fn passing(error: &Error) -> bool {
+    match error.kind() {
+        ErrorKind::Interrupted => true,
+        ErrorKind::WouldBlock => {
+            yield_now();
+            true
         }
-        let error = os::errno();
-        if !passing(error) {
-            return -1;
-        }
-        let got = read_waiting(fd, error, buf);
-        if got >= 0 {
-            return got;
-        }
-        turns -= 1;
+        _ => false,
     }
-    -1
+}
+
+// Nothing says that such calls end, so the turns are counted, up to a number that no run comes to.
+fn read_once<R: Read>(from: &mut R, buf: &mut [u8]) -> io::Result<usize>
+    ensures { IfOk result (λ n. n ≤ length buf.old) }
+{
+    for _ in 0..u64::MAX {
+        match from.read(buf) {
+            Ok(n) => return Ok(n),
+            Err(e) if passing(&e) => {}
+            Err(e) => return Err(e),
+        }
+    }
+    Err(Error::from(ErrorKind::TimedOut))
 }
 
 // What there is of the input.
-pub fn read_some(fd: i32, buf: &mut [u8]) -> Came
+pub fn read_some<R: Read>(from: &mut R, buf: &mut [u8]) -> Came
     ensures { result.n ≤ length buf.old }
 {
-    let got = read_once(fd, buf);
-    let n = io::count(got, buf);
-    Came { n, failed: got < 0 }
+    match read_once(from, buf) {
+        Ok(n) => Came { n, failed: None },
+        Err(e) => Came {
+            n: 0,
+            failed: Some(e),
+        },
+    }
 }
 
 // The input's next bytes, until the buffer is full or the input ends.
-pub fn fill(fd: i32, buf: &mut [u8]) -> Came
+pub fn fill<R: Read>(from: &mut R, buf: &mut [u8]) -> Came
     ensures { result.n ≤ length buf.old }
 {
     let mut n = 0;
     while n < buf.len() {
-        let more = read_some(fd, &mut buf[n..]);
+        let more = read_some(from, &mut buf[n..]);
         if more.n == 0 {
             return Came {
                 n,
@@ -102,68 +74,56 @@ pub fn fill(fd: i32, buf: &mut [u8]) -> Came
         }
         n += more.n;
     }
-    Came { n, failed: false }
+    Came { n, failed: None }
 }
 
-fn write_waiting(fd: i32, error: i32, bytes: &[u8]) -> isize {
-    let anew = in_place(fd, error);
-    if anew < 0 {
-        return -1;
+fn write_once<W: Write>(to: &mut W, bytes: &[u8]) -> io::Result<usize>
+    ensures bound { IfOk result (λ n. n ≤ length bytes.now) }
+    ensures some { IfOk result (λ n. Appends (W.contents to.old) (W.contents to.new) (take n bytes.now)) }
+    ensures none { OnErr result (Keeps (W.contents to.old) (W.contents to.new)) }
+{
+    for _ in 0..u64::MAX {
+        match to.write(bytes) {
+            Ok(n) => return Ok(n),
+            Err(e) if passing(&e) => {}
+            Err(e) => return Err(e),
+        }
     }
-    let put = libc::write(anew, bytes);
-    libc::close(anew);
-    put
+    Err(Error::from(ErrorKind::TimedOut))
 }
 
-fn write_once(fd: i32, bytes: &[u8]) -> isize {
-    let mut turns = u64::MAX;
-    while turns > 0 {
-        let put = libc::write(fd, bytes);
-        if put >= 0 {
-            return put;
-        }
-        let error = os::errno();
-        if !passing(error) {
-            return -1;
-        }
-        let put = write_waiting(fd, error, bytes);
-        if put >= 0 {
-            return put;
-        }
-        turns -= 1;
-    }
-    -1
-}
-
-// False where some cannot be written.
-pub fn write_whole(fd: i32, bytes: &[u8]) -> bool {
+// An error where some cannot be written.
+pub fn write_whole<W: Write>(to: &mut W, bytes: &[u8]) -> io::Result<()>
+    ensures { OnOk result (Appends (W.contents to.old) (W.contents to.new) bytes.now) }
+{
     let mut at = 0;
     while at < bytes.len() {
-        let rest = &bytes[at..];
-        let n = io::count(write_once(fd, rest), rest);
+        let n = write_once(to, &bytes[at..])?;
         if n == 0 {
-            return false;
+            return Err(Error::from(ErrorKind::WriteZero));
         }
         at += n;
     }
-    true
+    Ok(())
 }
 
-pub fn put(bytes: &[u8]) -> bool {
-    write_whole(STDOUT_FILENO, bytes)
+// An answer, on standard output.
+pub fn put<W: Write>(out: &mut W, bytes: &[u8]) -> io::Result<()>
+    ensures { OnOk result (Appends (W.contents out.old) (W.contents out.new) bytes.now) }
+{
+    write_whole(out, bytes)
 }
 
 // Nobody can be told where standard error itself fails.
-pub fn say(words: &[u8]) {
-    write_whole(STDERR_FILENO, words);
+pub fn say<W: Write>(err: &mut W, words: &[u8]) {
+    let _ = write_whole(err, words);
 }
 
-pub fn write_number(fd: i32, v: u64) -> bool {
-    let mut digits = [0u8; 20];
-    let n = io::decimal(v, &mut digits);
-    write_whole(fd, &digits[0..n])
+pub fn write_number<W: Write>(to: &mut W, v: u64) -> io::Result<()> {
+    let mut digits = Buffer::new();
+    write_whole(to, digits.format(v).as_bytes())
 }
 
-pub fn say_number(v: u64) {
-    write_number(STDERR_FILENO, v);
+pub fn say_number<W: Write>(err: &mut W, v: u64) {
+    let _ = write_number(err, v);
 }

@@ -10,136 +10,161 @@ use changes::{
     ends, entry, first_term, first_terms, inverse, last_term, number, pin, result_ends,
     result_number, result_steps, result_unknowns, result_visit, right, steps, unknowns,
 };
+use std::io;
+use std::io::Write;
 use telling::{job, job_into, result, result_into};
 use values::{LEAST, MOST, term};
 
-fn heads() {
+fn heads<W: Write>(to: &mut W) -> io::Result<()> {
     let p = values::poly();
-    job(b"poly", p);
-    job(b"number 1000000000", number(p, 1000000000));
-    job(b"number at most", number(p, MOST));
-    job(b"n 0", unknowns(p, 0));
-    job(b"n 7", unknowns(p, 7));
-    job(b"n at most", unknowns(p, MOST as usize));
-    job(b"number and n", unknowns(number(p, 1000000000), 7));
-    job(b"steps 0", steps(p, 0));
-    job(b"steps 1001", steps(p, 1001));
-    job(b"steps at most", steps(p, MOST));
+    job(to, b"poly", p)?;
+    job(to, b"number 1000000000", number(p, 1000000000))?;
+    job(to, b"number at most", number(p, MOST))?;
+    job(to, b"n 0", unknowns(p, 0))?;
+    job(to, b"n 7", unknowns(p, 7))?;
+    job(to, b"n at most", unknowns(p, MOST as usize))?;
+    job(to, b"number and n", unknowns(number(p, 1000000000), 7))?;
+    job(to, b"steps 0", steps(p, 0))?;
+    job(to, b"steps 1001", steps(p, 1001))?;
+    job(to, b"steps at most", steps(p, MOST))?;
+    Ok(())
 }
 
-fn sides() {
+fn sides<W: Write>(to: &mut W) -> io::Result<()> {
     let p = values::poly();
-    job(b"low end beyond", ends(p, -262145, 0));
-    job(b"low end least", ends(p, LEAST, 0));
-    job(b"high end beyond", ends(p, 0, 262145));
-    job(b"ends crossed", ends(p, 1, 0));
-    job(b"ends crossed, high beyond", ends(p, 0, -262145));
-    job(b"ends without width", ends(p, 0, 0));
-    job(b"inverse beyond", inverse(p, 4194305));
-    job(b"inverse least", inverse(p, LEAST));
+    job(to, b"low end beyond", ends(p, -262145, 0))?;
+    job(to, b"low end least", ends(p, LEAST, 0))?;
+    job(to, b"high end beyond", ends(p, 0, 262145))?;
+    job(to, b"ends crossed", ends(p, 1, 0))?;
+    job(to, b"ends crossed, high beyond", ends(p, 0, -262145))?;
+    job(to, b"ends without width", ends(p, 0, 0))?;
+    job(to, b"inverse beyond", inverse(p, 4194305))?;
+    job(to, b"inverse least", inverse(p, LEAST))?;
+    Ok(())
 }
 
-fn terms() {
+fn terms<W: Write>(to: &mut W) -> io::Result<()> {
     let p = values::poly();
-    job(b"no term", first_terms(p, term(LEAST, 0, 0), 0));
-    job(b"17 terms", first_terms(p, term(1, 0, 0), 17));
-    job(b"17 terms, beyond", first_terms(p, term(LEAST, 0, 0), 17));
-    job(b"coefficient beyond", first_term(p, term(4194305, 2, 0)));
-    job(b"coefficient least", last_term(p, term(LEAST, 0, 0)));
-    job(b"coefficient zero", last_term(p, term(0, 0, 0)));
-    job(b"exponent 10", first_term(p, term(1, 10, 0)));
-    job(b"exponents 255", first_term(p, term(1, 255, 255)));
-    job(b"degree 4", first_term(p, term(1, 2, 2)));
-    job(b"degree 4, beyond", first_term(p, term(4194305, 2, 2)));
-    job(b"terms alike", last_term(p, term(1, 0, 1)));
-    job(b"terms rising", last_term(p, term(1, 0, 2)));
+    job(to, b"no term", first_terms(p, term(LEAST, 0, 0), 0))?;
+    job(to, b"17 terms", first_terms(p, term(1, 0, 0), 17))?;
+    job(
+        to,
+        b"17 terms, beyond",
+        first_terms(p, term(LEAST, 0, 0), 17),
+    )?;
+    job(
+        to,
+        b"coefficient beyond",
+        first_term(p, term(4194305, 2, 0)),
+    )?;
+    job(to, b"coefficient least", last_term(p, term(LEAST, 0, 0)))?;
+    job(to, b"coefficient zero", last_term(p, term(0, 0, 0)))?;
+    job(to, b"exponent 10", first_term(p, term(1, 10, 0)))?;
+    job(to, b"exponents 255", first_term(p, term(1, 255, 255)))?;
+    job(to, b"degree 4", first_term(p, term(1, 2, 2)))?;
+    job(to, b"degree 4, beyond", first_term(p, term(4194305, 2, 2)))?;
+    job(to, b"terms alike", last_term(p, term(1, 0, 1)))?;
+    job(to, b"terms rising", last_term(p, term(1, 0, 2)))?;
+    Ok(())
 }
 
-fn matrices() {
+fn matrices<W: Write>(to: &mut W) -> io::Result<()> {
     let a = values::linear();
-    job(b"linear", a);
-    job(b"linear, entry beyond", entry(a, 4194305));
-    job(b"linear, right side beyond", right(a, -4194305));
+    job(to, b"linear", a)?;
+    job(to, b"linear, entry beyond", entry(a, 4194305))?;
+    job(to, b"linear, right side beyond", right(a, -4194305))?;
     let e = values::eigen();
-    job(b"eigen", e);
-    job(b"eigen, entry least", entry(e, LEAST));
+    job(to, b"eigen", e)?;
+    job(to, b"eigen, entry least", entry(e, LEAST))?;
+    Ok(())
 }
 
 // A pin of n stands for the last; any other moves the lines after it.
-fn pins() {
+fn pins<W: Write>(to: &mut W) -> io::Result<()> {
     let e = values::eigen();
     let p = pin(e, 1);
-    job(b"pin 1", p);
-    job(b"pin 0", pin(e, 0));
-    job(b"pin 3", pin(e, 3));
-    job(b"pin at most", pin(e, MOST as usize));
-    job(b"n and pin", pin(unknowns(e, 7), 0));
-    job(b"pin and low end", pin(ends(e, -262145, 0), 0));
-    job(b"pin 1, low end beyond", ends(p, -262145, 0));
-    job(b"pin 1, ends crossed", ends(p, 1, 0));
-    job(b"pin 1, inverse beyond", inverse(p, 4194305));
-    job(b"pin 1, steps 1001", steps(p, 1001));
-    job(b"pin 1, entry least", entry(p, LEAST));
+    job(to, b"pin 1", p)?;
+    job(to, b"pin 0", pin(e, 0))?;
+    job(to, b"pin 3", pin(e, 3))?;
+    job(to, b"pin at most", pin(e, MOST as usize))?;
+    job(to, b"n and pin", pin(unknowns(e, 7), 0))?;
+    job(to, b"pin and low end", pin(ends(e, -262145, 0), 0))?;
+    job(to, b"pin 1, low end beyond", ends(p, -262145, 0))?;
+    job(to, b"pin 1, ends crossed", ends(p, 1, 0))?;
+    job(to, b"pin 1, inverse beyond", inverse(p, 4194305))?;
+    job(to, b"pin 1, steps 1001", steps(p, 1001))?;
+    job(to, b"pin 1, entry least", entry(p, LEAST))?;
+    Ok(())
 }
 
-fn results() {
+fn results<W: Write>(to: &mut W) -> io::Result<()> {
     let r = values::result();
-    result(b"result", r);
-    result(b"result number 1000000000", result_number(r, 1000000000));
-    result(b"result visit 999999999", result_visit(r, 999999999));
-    result(b"result visit 1000000000", result_visit(r, 1000000000));
-    result(b"result visit at most", result_visit(r, MOST));
+    result(to, b"result", r)?;
     result(
+        to,
+        b"result number 1000000000",
+        result_number(r, 1000000000),
+    )?;
+    result(to, b"result visit 999999999", result_visit(r, 999999999))?;
+    result(to, b"result visit 1000000000", result_visit(r, 1000000000))?;
+    result(to, b"result visit at most", result_visit(r, MOST))?;
+    result(
+        to,
         b"result number and visit",
         result_visit(result_number(r, 1000000000), 1000000000),
-    );
+    )?;
     result(
+        to,
         b"result visit and steps",
         result_steps(result_visit(r, 1000000000), 1001),
-    );
-    result(b"result steps 1001", result_steps(r, 1001));
-    result(b"result n 0", result_unknowns(r, 0));
-    result(b"result n 7", result_unknowns(r, 7));
-    result(b"result n at most", result_unknowns(r, MOST as usize));
-    result(b"result low end beyond", result_ends(r, -262145, 0));
-    result(b"result high end least", result_ends(r, 0, LEAST));
-    result(b"result ends crossed", result_ends(r, 1, 0));
+    )?;
+    result(to, b"result steps 1001", result_steps(r, 1001))?;
+    result(to, b"result n 0", result_unknowns(r, 0))?;
+    result(to, b"result n 7", result_unknowns(r, 7))?;
+    result(to, b"result n at most", result_unknowns(r, MOST as usize))?;
+    result(to, b"result low end beyond", result_ends(r, -262145, 0))?;
+    result(to, b"result high end least", result_ends(r, 0, LEAST))?;
+    result(to, b"result ends crossed", result_ends(r, 1, 0))?;
+    Ok(())
 }
 
 // Buffers of exactly a text's length, of one byte less and of one byte.
-fn job_rooms() {
+fn job_rooms<W: Write>(to: &mut W) -> io::Result<()> {
     let p = values::poly();
     let mut exact = [b'.'; 122];
-    job_into(p, &mut exact);
+    job_into(to, p, &mut exact)?;
     let mut short = [b'.'; 121];
-    job_into(p, &mut short);
+    job_into(to, p, &mut short)?;
     let mut byte = [b'.'; 1];
-    job_into(p, &mut byte);
-    job_into(unknowns(p, 7), &mut byte);
+    job_into(to, p, &mut byte)?;
+    job_into(to, unknowns(p, 7), &mut byte)?;
     let e = pin(values::eigen(), 1);
     let mut pinned = [b'.'; 123];
-    job_into(e, &mut pinned);
+    job_into(to, e, &mut pinned)?;
     let mut less = [b'.'; 122];
-    job_into(e, &mut less);
+    job_into(to, e, &mut less)?;
+    Ok(())
 }
 
-fn result_rooms() {
+fn result_rooms<W: Write>(to: &mut W) -> io::Result<()> {
     let r = values::result();
     let mut exact = [b'.'; 57];
-    result_into(r, &mut exact);
+    result_into(to, r, &mut exact)?;
     let mut short = [b'.'; 56];
-    result_into(r, &mut short);
+    result_into(to, r, &mut short)?;
     let mut byte = [b'.'; 1];
-    result_into(result_unknowns(r, 0), &mut byte);
+    result_into(to, result_unknowns(r, 0), &mut byte)?;
+    Ok(())
 }
 
-fn main() {
-    heads();
-    sides();
-    terms();
-    matrices();
-    pins();
-    results();
-    job_rooms();
-    result_rooms();
+fn main(rt: HostRuntime) -> io::Result<()> {
+    let to = &mut rt.stdout();
+    heads(to)?;
+    sides(to)?;
+    terms(to)?;
+    matrices(to)?;
+    pins(to)?;
+    results(to)?;
+    job_rooms(to)?;
+    result_rooms(to)
 }

@@ -2,33 +2,33 @@
 use faults::{Status, Written};
 use jobs::{Job, Result};
 use sizes::N;
+use std::io;
+use std::io::Write;
 
 // More than any text here has.
 const ROOM: usize = 128;
 
-fn status(s: Status) {
+fn status<W: Write>(to: &mut W, s: Status) -> io::Result<()> {
     match s {
-        Status::Done => {
-            io::write_all(1, b"done");
-        }
+        Status::Done => to.write_all(b"done"),
         Status::Refused(f, line) => {
-            io::write_all(1, b"fault=");
-            io::print_decimal(1, faults::fault_number(f));
-            io::write_all(1, b" line=");
-            io::print_decimal(1, line);
+            to.write_all(b"fault=")?;
+            write!(to, "{}", faults::fault_number(f))?;
+            to.write_all(b" line=")?;
+            write!(to, "{line}")
         }
     }
 }
 
-fn written(w: Written, buf: &[u8]) {
+fn written<W: Write>(to: &mut W, w: Written, buf: &[u8]) -> io::Result<()> {
     let s = w.status;
-    io::write_all(1, b"write: ");
-    status(s);
-    io::write_all(1, b" length=");
-    io::print_decimal(1, w.len as u64);
-    io::write_all(1, b"\n[");
-    io::write_all(1, buf);
-    io::write_all(1, b"]\n");
+    to.write_all(b"write: ")?;
+    status(to, s)?;
+    to.write_all(b" length=")?;
+    write!(to, "{}", w.len)?;
+    to.write_all(b"\n[")?;
+    to.write_all(buf)?;
+    to.write_all(b"]\n")
 }
 
 // Whether the places past n are zero.
@@ -43,64 +43,64 @@ fn zero_past(xs: [i64; N], n: usize) -> bool {
     true
 }
 
-fn past(xs: [i64; N], n: usize) {
+fn past<W: Write>(to: &mut W, xs: [i64; N], n: usize) -> io::Result<()> {
     if zero_past(xs, n) {
-        io::write_all(1, b" zero");
+        to.write_all(b" zero")
     } else {
-        io::write_all(1, b" not zero");
+        to.write_all(b" not zero")
     }
 }
 
-pub fn result_into(r: Result, out: &mut [u8]) {
+pub fn result_into<W: Write>(to: &mut W, r: Result, out: &mut [u8]) -> io::Result<()> {
     let w = result_write::write_result(r, out);
-    written(w, out);
+    written(to, w, out)
 }
 
-fn show(r: Result) {
+fn show<W: Write>(to: &mut W, r: Result) -> io::Result<()> {
     let mut out = [b'.'; ROOM];
-    result_into(r, &mut out);
+    result_into(to, r, &mut out)
 }
 
-fn line(name: &[u8]) {
-    io::write_all(1, name);
-    io::write_all(1, b"\n");
+fn line<W: Write>(to: &mut W, name: &[u8]) -> io::Result<()> {
+    to.write_all(name)?;
+    to.write_all(b"\n")
 }
 
-pub fn result(name: &[u8], r: Result) {
-    line(name);
-    show(r);
+pub fn result<W: Write>(to: &mut W, name: &[u8], r: Result) -> io::Result<()> {
+    line(to, name)?;
+    show(to, r)
 }
 
 // What the run answers.
-fn ran(j: Job) {
+fn ran<W: Write>(to: &mut W, j: Job) -> io::Result<()> {
     let a = run::run(j);
     let s = a.status;
     let r = a.result;
-    io::write_all(1, b"run: ");
-    status(s);
+    to.write_all(b"run: ")?;
+    status(to, s)?;
     match s {
         Status::Done => {
             let n = r.n;
             let lo = r.lo;
             let hi = r.hi;
-            io::write_all(1, b", past n");
-            past(lo, n);
-            past(hi, n);
-            line(b"");
-            show(r);
+            to.write_all(b", past n")?;
+            past(to, lo, n)?;
+            past(to, hi, n)?;
+            line(to, b"")?;
+            show(to, r)
         }
-        Status::Refused(_, _) => line(b""),
+        Status::Refused(_, _) => line(to, b""),
     }
 }
 
-pub fn job_into(j: Job, out: &mut [u8]) {
+pub fn job_into<W: Write>(to: &mut W, j: Job, out: &mut [u8]) -> io::Result<()> {
     let w = job_write::write_job(j, out);
-    written(w, out);
+    written(to, w, out)
 }
 
-pub fn job(name: &[u8], j: Job) {
+pub fn job<W: Write>(to: &mut W, name: &[u8], j: Job) -> io::Result<()> {
     let mut out = [b'.'; ROOM];
-    line(name);
-    ran(j);
-    job_into(j, &mut out);
+    line(to, name)?;
+    ran(to, j)?;
+    job_into(to, j, &mut out)
 }

@@ -1,6 +1,6 @@
 -- `floodrafter_c::lists::floodrafter_halve` meets its contract.
 use mir.Facts.{to_z-of_z}
-use Rattle.floodrafter_c.proofs.lists.floodrafter_halve.Goals as goal
+use Rattle.floodrafter_c.proofs.listed.floodrafter_halve.Goals as goal
 
 pub returns-in-Done : goal.returns-in-Done
 returns-in-Done c =

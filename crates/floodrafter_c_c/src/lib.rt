@@ -1,0 +1,71 @@
+// The exports of the C library, each of a function of floodrafter_c with its clauses. `include/floodrafter.h` is the
+// other side.
+#![tactic(auto)]
+
+pub mod listed;
+pub mod parts;
+pub mod screens;
+pub mod steps;
+
+ghost use Rattle.std.specs.Prelude.{◌≡◌};
+ghost use Rattle.job_form.specs.JobForm.{read_job};
+ghost use Rattle.result_form.specs.ResultForm.{read_result};
+ghost use Rattle.desk.specs.Desk.{job_status, job_text, result_status, result_text, solve_status, solve_text};
+ghost use Rattle.c_answers.specs.Numbers.{checked, Gives};
+ghost use Rattle.slips.specs.Slips.{found_in};
+ghost use Rattle.sentences.specs.Sentences.{Explains};
+
+use c_answers::Answer;
+
+#[unsafe(no_mangle)]
+pub extern "C" fn floodrafter_solve(text: &[u8], out: &mut [u8]) -> Answer
+    ensures { Gives (solve_status text.now) (solve_text text.now)
+        out.old out.new result }
+{
+    floodrafter_c::floodrafter_solve(text, out)
+}
+
+#[unsafe(no_mangle)]
+pub extern "C" fn floodrafter_rewrite_job(text: &[u8], out: &mut [u8]) -> Answer
+    ensures { Gives (job_status text.now) (job_text text.now)
+        out.old out.new result }
+{
+    floodrafter_c::floodrafter_rewrite_job(text, out)
+}
+
+#[unsafe(no_mangle)]
+pub extern "C" fn floodrafter_rewrite_result(text: &[u8], out: &mut [u8]) -> Answer
+    ensures { Gives (result_status text.now) (result_text text.now)
+        out.old out.new result }
+{
+    floodrafter_c::floodrafter_rewrite_result(text, out)
+}
+
+#[unsafe(no_mangle)]
+pub extern "C" fn floodrafter_check_job(text: &[u8]) -> Answer
+    ensures { result ≡ checked (read_job text.now).status }
+{
+    floodrafter_c::floodrafter_check_job(text)
+}
+
+#[unsafe(no_mangle)]
+pub extern "C" fn floodrafter_check_result(text: &[u8]) -> Answer
+    ensures { result ≡ checked (read_result text.now).status }
+{
+    floodrafter_c::floodrafter_check_result(text)
+}
+
+#[unsafe(no_mangle)]
+pub extern "C" fn floodrafter_explain_job(text: &[u8], out: &mut [u8]) -> usize
+    ensures { Explains (found_in (read_job text.now).status) out.old out.new result }
+{
+    floodrafter_c::floodrafter_explain_job(text, out)
+}
+
+#[unsafe(no_mangle)]
+pub extern "C" fn floodrafter_explain_result(text: &[u8], out: &mut [u8]) -> usize
+    ensures { Explains (found_in (read_result text.now).status)
+        out.old out.new result }
+{
+    floodrafter_c::floodrafter_explain_result(text, out)
+}
