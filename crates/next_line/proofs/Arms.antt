@@ -35,7 +35,7 @@ module _ {A : Type 0} (f : List ℕ → Got Fault A) (put : A → Next JobLine J
     abbrev left : Read
     left = with_state r (heard m (after (f (line_of t 0)) put))
 
-    pub left-fine : {fine : Bool} → fine ≡ is_fine found → not fine ≡ false
+    pub left-fine : {fine : Bool} → fine ≡ is_fine found → fine ≡ true
         → with_state r (State.at (put x).kind (put x).value) ≡ left
     unfolding heard after
     left-fine {fine} q w = go (f (line_of t 0)) refl
@@ -44,15 +44,15 @@ module _ {A : Type 0} (f : List ℕ → Got Fault A) (put : A → Next JobLine J
             → with_state r (State.at (put x).kind (put x).value) ≡ with_state r (heard m (after g put))
         go (Got.got y) e = rw (tells.fine y (said-ended f t ends ∙ e)).1
         go (Got.fault d) e =
-            absurd (false≢true (sym (ap is_fine (tells.bad d (said-ended f t ends ∙ e)).0) ∙ sym q ∙ not-false fine w))
+            absurd (false≢true (sym (ap is_fine (tells.bad d (said-ended f t ends ∙ e)).0) ∙ sym q ∙ w))
 
-    pub left-bad : {fine : Bool} → fine ≡ is_fine found → not fine ≡ true → stopped_by r found m ≡ left
+    pub left-bad : {fine : Bool} → fine ≡ is_fine found → fine ≡ false → stopped_by r found m ≡ left
     unfolding heard after
     left-bad {fine} q w = go (f (line_of t 0)) refl
       where
         go : (g : Got Fault A) → f (line_of t 0) ≡ g → stopped_by r found m ≡ with_state r (heard m (after g put))
         go (Got.got y) e =
-            absurd (true≢false (sym (ap is_fine (tells.fine y (said-ended f t ends ∙ e)).0) ∙ sym q ∙ not-true fine w))
+            absurd (true≢false (sym (ap is_fine (tells.fine y (said-ended f t ends ∙ e)).0) ∙ sym q ∙ w))
         go (Got.fault d) e = rw (tells.bad d (said-ended f t ends ∙ e)).0
 
 -- a line of the system, by its kind

@@ -17,7 +17,7 @@ returns-then-not-fits c =
     let args = c.args in
     no_room (show_result args.r) args.out.now
     (leb-false (length (show_result args.r)) (length args.out.now)
-    (sym c.fits2.ensures ∙ c.if-not-fits.true))
+    (sym c.fits.ensures ∙ c.if-not-fits.true))
 
 pub put_result-len-requires : goal.put_result-len-requires
 put_result-len-requires c = ready-done c.args.r c.requires
@@ -27,6 +27,6 @@ returns c =
     let args = c.args in
     let wrote = c.put_result-len.ensures in
     let fits = leb-true (length (show_result args.r)) (length args.out.now)
-    (sym c.fits2.ensures ∙ c.if-not-fits.false) in
+    (sym c.fits.ensures ∙ c.if-not-fits.false) in
     rw (wrote.next ∙ zero-add (length (show_result args.r)))
     (all-written (show_result args.r) args.out.now fits wrote)

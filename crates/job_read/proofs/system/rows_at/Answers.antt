@@ -1,0 +1,35 @@
+use mathlib.Core.Path.{sym, ◌∙◌}
+use Prim.Native.Nat.{◌-◌}
+use native.Mathlib.Omega.{arith}
+use Rattle.line_read.proofs.Tells.{cells-tells}
+use Rattle.job_read.proofs.Systems.{walked_none, walked_more, walked-bad, walked-done, eigen-adds}
+use Rattle.job_read.proofs.system.rows_at.Goals as goal
+
+pub loop-i-init : goal.loop-i-init
+loop-i-init c =
+    rw c.zero_row-zero.ensures
+    (omega arith, walked_none _ _ _ c.requires.1.some c.requires.0)
+
+pub row_line-l-requires : goal.row_line-l-requires
+row_line-l-requires c = (c.loop-i.invariant.1.inside, c.requires.1.few)
+
+pub returns-then-is_bad : goal.returns-then-is_bad
+returns-then-is_bad c =
+    walked-bad _ _ _ (eigen-adds _ c.requires.2) c.loop-i.invariant.1
+    c.loop-i-test.true (cells-tells _ _ c.row_line-l.ensures)
+    c.on_line-s.ensures
+    c.job_line_number.ensures (sym c.is_bad.ensures ∙ c.if-is_bad.true)
+    c.no_system.ensures
+
+pub loop-i-preserved : goal.loop-i-preserved
+loop-i-preserved c = (
+  omega arith,
+  walked_more _ _ _ (eigen-adds _ c.requires.2) c.loop-i.invariant.1
+      c.loop-i-test.true (cells-tells _ _ c.row_line-l.ensures)
+      c.on_line-s.ensures
+      c.job_line_number.ensures (sym c.is_bad.ensures ∙ c.if-is_bad.false),
+)
+
+pub returns : goal.returns
+returns c =
+    rw c.zero_equation-none.ensures (walked-done _ _ _ c.loop-i.invariant.1 c.loop-i-test.false)
