@@ -1,0 +1,10 @@
+-- `sentences::values::put_far_not` meets its contract.
+use native.Mathlib.Omega.{arith}
+use mir.Facts.{to_z-of_z}
+use Rattle.phrases.proofs.Says.{says-most, says_then}
+use Rattle.sentences.proofs.values.put_far_not.Goals as goal
+
+pub returns : goal.returns
+returns c =
+    says-most _ (omega arith) (says_then (says_then c.tell-a.ensures (rw (to_z-of_z c.ranges.v) at
+    c.put_value-b.ensures)) c.put_range.ensures)

@@ -1,0 +1,8 @@
+-- `sentences::values::put_order` meets its contract.
+use native.Mathlib.Omega.{arith}
+use Rattle.phrases.proofs.Says.{says-most, says_then}
+use Rattle.sentences.proofs.values.put_order.Goals as goal
+
+pub returns : goal.returns
+returns c =
+    says-most _ (omega arith) (says_then c.tell-a.ensures c.tell_first.ensures)
