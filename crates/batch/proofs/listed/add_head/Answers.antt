@@ -1,5 +1,5 @@
 -- `batch::listed::add_head` meets its contract: a line and a piece fit behind a block.
-use Rattle.std.proofs.Common.{arith, [], ◌≤◌, ◌≡◌, ◌+◌, length}
+use Rattle.std.proofs.Common.{arith, []}
 use Rattle.writing.proofs.Lines.{count-line-short}
 use Rattle.writing.proofs.Wrote.{wrote-length}
 use Rattle.batch.proofs.listed.add_head.Goals as goal
