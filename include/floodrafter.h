@@ -1,7 +1,7 @@
 /* Floodrafter for C: job texts answered, at once or in the parts that they arrive in, their steps shown one by one, all their closing positions listed, job
  * and result texts checked, explained and written again, and the jobs of eight rooms kept in one table and moved step by step.
  *
- * Link with target/staticlib/libfloodrafter_c.a (x86-64), which `rt staticlib floodrafter_c` proves and writes. docs/C.md has an example.
+ * Link with target/staticlib/libfloodrafter_c.a (x86-64), which `tools/build archive` proves and writes. docs/C.md has an example.
  *
  * Every function takes any bytes, lengths and numbers. It keeps no state, allocates nothing and calls nothing but memcpy and memset, so that threads may call it
  * as they like, but for those that share a table of rooms: calls on one table come one after another. What is known of a text that arrives in parts, and the

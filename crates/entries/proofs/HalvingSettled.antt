@@ -10,8 +10,8 @@ use Rattle.listing.proofs.list_text.Reads as list-text
 use Rattle.listing.proofs.list_text.Kinds as list-text-kinds
 use Rattle.answers.proofs.deep_asked.Reads as deep
 use Rattle.answers.proofs.deep_asked.Kinds as deep-kinds
-use Rattle.floodrafter_c.proofs.lists.floodrafter_halve.Reads as c-halve
-use Rattle.floodrafter_c.proofs.lists.floodrafter_halve.Kinds as c-halve-kinds
+use Rattle.floodrafter_c.proofs.listed.floodrafter_halve.Reads as c-halve
+use Rattle.floodrafter_c.proofs.listed.floodrafter_halve.Kinds as c-halve-kinds
 
 pub halve-settled : (κs : Lfts 1) (a : Dens κs halve-kinds.ps) (r r' : (res_t halve-kinds.r κs).Denot)
     (s s' : AtExit (ended_of 1 halve-kinds.ps halve-kinds.r) κs)

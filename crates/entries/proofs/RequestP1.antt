@@ -1,6 +1,6 @@
 -- Request P1, "Job text that arrives by the handful". Only statements, each proved by one line from the files beside
--- this one and in job_parts. `part_taken` and `end_of` are what the public operations answer, `given` is what is carried
--- after some parts (job_parts, specs/Parts).
+-- this one and in job_parts. `part_taken` and `end_of` are what the public operations answer, `given` is what is
+-- carried after some parts (job_parts, specs/Parts).
 use mathlib.Core.Path.{◌≡◌, sym, ap, ◌∙◌}
 use mathlib.Core.List.{List, [], foldl}
 use mathlib.Core.Bool.{false}

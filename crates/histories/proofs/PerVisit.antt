@@ -1,7 +1,7 @@
 -- Demand 3 of a visit: what it reads as, from its opening on, is a run of its job.
 use Prim.Native.Nat.{ℕ, ◌+◌, ◌-◌, ◌≤◌, min}
 use native.Mathlib.Omega.{arith}
-use mathlib.Core.Path.{◌≡◌, refl, sym, ap, ◌∙◌}
+use mathlib.Core.Path.{◌≡◌, sym, ap, ◌∙◌}
 use mathlib.Core.List.{List, [], ◌∷◌, ◌++◌}
 use Rattle.intervals.specs.declared.Interval.{Interval}
 use Rattle.faults.specs.declared.Status.{Status}
@@ -23,7 +23,7 @@ use Rattle.visits.specs.Visits.{reading_of}
 use Rattle.visits.proofs.Steps.{box-so-far}
 use Rattle.room_form.specs.declared.Room.{Room}
 use Rattle.room_form.specs.Calls.{lowest_free, next_visit, open_status, opened}
-use Rattle.histories.specs.Histories.{Call, after, own_step, own_steps, Stays, reads_after, box_after}
+use Rattle.histories.specs.Histories.{Call, after, own_steps, Stays, reads_after, box_after}
 use Rattle.histories.proofs.Formed.{open-read}
 use Rattle.histories.proofs.Own.{own-reading}
 

@@ -10,7 +10,6 @@ use mir.Val.{SFits, Fits, to_z, of_z}
 use mir.Facts.{to_z-of_z}
 use mir.ValLaws.{to_z_pos}
 use Rattle.integers.specs.Ranges.{Within}
-use Rattle.integers.proofs.Ranges.{fits}
 
 -- what is read back from the bits of a number that fits is the number
 pub back : {w : Width} {z : ℤ} → SFits w z → to_z w (of_z w z) ≡ z

@@ -1,6 +1,6 @@
 -- Request P10, "Six unknowns". Only statements, each proved by one line from the files beside this one. `old_read_job`
--- and `old_read_result` are what the program of before the request says of a text; Fault.LongText is 1, Fault.Unknowns 3.
--- What is written (`job_bytes`, `show_result`) names no limit. That 1 comes exactly for a text over `text_max` is in
+-- and `old_read_result` are what the program of before the request says of a text; Fault.LongText is 1, Fault.Unknowns
+-- 3. What is written (`job_bytes`, `show_result`) names no limit. That 1 comes exactly for a text over `text_max` is in
 -- entries/proofs/Demand1.antt.
 use Prim.Native.Nat.{ℕ, ◌+◌, ◌*◌, ◌^◌, ◌≤◌, ◌<◌}
 use mathlib.Core.Path.{◌≡◌, refl}

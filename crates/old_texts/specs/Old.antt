@@ -1,6 +1,6 @@
 -- What the program of before request P10 says of a text: the same lines, with document 01's own limits of n and of
--- bytes. What all other lines say, their numbers and their faults are those of `job_form_of` and `result_form_of`, also where a
--- later request has changed them: P10 speaks of the two limits alone.
+-- bytes. What all other lines say, their numbers and their faults are those of `job_form_of` and `result_form_of`, also
+-- where a later request has changed them: P10 speaks of the two limits alone.
 use Rattle.std.specs.Prelude.{ℕ, List, leb}
 use Rattle.sizes.specs.Sizes.{n_max}
 use Rattle.text.specs.Keys.{body_of}

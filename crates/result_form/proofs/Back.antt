@@ -9,7 +9,6 @@ use Rattle.digits.specs.Number.{digits_max}
 use Rattle.text.specs.Lists.{Small}
 use Rattle.text.proofs.Pieces.{Above}
 use Rattle.jobs.specs.declared.Result.{Result}
-use Rattle.jobs.specs.declared.Verdict.{Verdict}
 use Rattle.reading.specs.Got.{after}
 use Rattle.reading.specs.NumberLines.{placed}
 use Rattle.reading.proofs.Told.{after-after}

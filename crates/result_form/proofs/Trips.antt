@@ -32,7 +32,7 @@ use Rattle.lines.proofs.Found.{found-fine, status-then, status-last}
 use Rattle.lines.proofs.Checks.{counted-fine}
 use Rattle.result_form.specs.declared.ResultRead.{ResultRead}
 use Rattle.result_form.specs.ResultForm.{result_end, result_form_of, result_answer, read_result}
-use Rattle.result_form.specs.ResultShows.{line, kinds, result_shows, show_result, Spelled}
+use Rattle.result_form.specs.ResultShows.{kinds, result_shows, show_result, Spelled}
 use Rattle.result_form.proofs.Grows.{grows}
 use Rattle.result_form.proofs.Back.{Has, Spelt, law, plain}
 

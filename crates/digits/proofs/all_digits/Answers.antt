@@ -1,10 +1,8 @@
-use Prim.Native.Nat.{◌-◌}
 use native.Mathlib.Omega.{arith}
 use mathlib.Core.Path.{refl, sym, ◌∙◌}
-use mathlib.Core.Bool.{true}
 use Rattle.lists.specs.Loops.{all_b}
 use Rattle.lists.proofs.All.{all_more, all-stop, all_done}
-use Rattle.digits.specs.Digits.{is_digit, all_digits}
+use Rattle.digits.specs.Digits.{all_digits}
 use Rattle.digits.proofs.all_digits.Goals as goal
 
 pub loop-k-init : goal.loop-k-init

@@ -1,6 +1,5 @@
 -- `job_parts::end` meets its contract.
 use mathlib.Core.Path.{sym, ◌∙◌}
-use borrow.Author.Tests.{not-false}
 use Rattle.next_line.specs.State.{line_in, head_of}
 use Rattle.job_parts.proofs.Fits.{has-fits}
 use Rattle.next_line.proofs.Rooms.{place-back, line-fits}

@@ -1,7 +1,5 @@
 use mathlib.Core.Path.{◌∙◌}
-use Prim.Native.Nat.{◌<◌, ◌-◌}
 use native.Mathlib.Omega.{arith}
-use Rattle.sizes.specs.Sizes.{n_max}
 use Rattle.step.specs.Step.{image_box}
 use Rattle.step.proofs.Imaged.{m-in, asked, image-is}
 use Rattle.step.proofs.Filled.{room-zero, filled_none, filled_more, filled-values, filled-slopes}

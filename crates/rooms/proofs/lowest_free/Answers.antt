@@ -1,8 +1,6 @@
-use Prim.Native.Nat.{◌-◌}
 use native.Mathlib.Omega.{arith}
 use mathlib.Core.Path.{◌≡◌, refl, sym, ◌∙◌}
 use Rattle.room_form.specs.Table.{rooms_max}
-use Rattle.room_form.specs.Calls.{is_free}
 use Rattle.room_form.proofs.Lowest.{first-here, first-later, first-none}
 use Rattle.rooms.proofs.lowest_free.Goals as goal
 

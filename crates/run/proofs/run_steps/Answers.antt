@@ -1,9 +1,7 @@
 use mathlib.Core.Path.{◌≡◌, sym, ◌∙◌}
-use Prim.Native.Nat.{◌<◌, ◌-◌}
 use native.Mathlib.Nat.{sub-zero}
 use native.Mathlib.Omega.{arith}
 use borrow.Author.Rules.{rules}
-use Rattle.sizes.specs.Sizes.{n_max}
 use Rattle.intervals.specs.Places.{entry_at, side_at}
 use Rattle.jobs.specs.Places.{equation_at}
 use Rattle.slopes.specs.Terms.{values_over, slopes_over}
@@ -11,8 +9,7 @@ use Rattle.step.specs.Step.{image_box}
 use Rattle.step.proofs.Imaged.{m-in, asked, image-is}
 use Rattle.step.proofs.Filled.{room-zero, filled_none, filled_more}
 use Rattle.step.proofs.Filled.{filled-values, filled-slopes, filled-room}
-use Rattle.run.specs.Run.{run_of}
-use Rattle.run.proofs.Turns.{turned, run-turn, run_end, next-box}
+use Rattle.run.proofs.Turns.{run-turn, run_end, next-box}
 use mathlib.Core.List.{List}
 use Prim.Native.Nat.{ℕ}
 use lib.IntN.{ℤ}

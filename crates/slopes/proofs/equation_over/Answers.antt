@@ -1,10 +1,9 @@
 use mathlib.Core.Path.{◌≡◌, refl, sym, ap, ◌∙◌}
 use mathlib.Core.List.{List}
-use Prim.Native.Nat.{ℕ, ◌≤◌, ◌<◌, ◌-◌}
+use Prim.Native.Nat.{ℕ, ◌≤◌}
 use native.Mathlib.Nat.{le_antisymm, pos_of_ne-zero}
 use native.Mathlib.Omega.{arith}
 use lib.ListN.{get_or}
-use Rattle.sizes.specs.Sizes.{n_max}
 use Rattle.intervals.specs.Interval.{scale_i}
 use Rattle.intervals.proofs.Sums.{sum_i-none, sum_i-more, sum_i-done}
 use Rattle.intervals.specs.Places.{side_at}

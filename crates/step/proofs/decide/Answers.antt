@@ -1,5 +1,4 @@
 use mathlib.Core.Path.{sym, ◌∙◌}
-use Prim.Native.Nat.{◌-◌}
 use native.Mathlib.Omega.{arith}
 use Rattle.step.proofs.Pass.{pass-none, pass-more, pass-decides, apart-decides}
 use Rattle.step.proofs.decide.Goals as goal

@@ -1,5 +1,4 @@
 use mathlib.Core.Path.{ap, ◌∙◌}
-use Prim.Native.Nat.{◌-◌}
 use native.Mathlib.Omega.{arith}
 use Rattle.sizes.specs.Sizes.{n_max}
 use Rattle.lists.proofs.Tab.{tab-none, tab-more, tab-done}

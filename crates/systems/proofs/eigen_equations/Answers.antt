@@ -1,9 +1,7 @@
-use Prim.Native.Nat.{◌-◌}
 use native.Mathlib.Omega.{arith}
 use Rattle.sizes.specs.Sizes.{n_max}
 use Rattle.lists.proofs.Tab.{tab-none, tab-more, tab-done}
 use Rattle.jobs.specs.Zero.{zero_equation}
-use Rattle.systems.specs.Kinds.{eigen_equation}
 use Rattle.systems.proofs.eigen_equations.Goals as goal
 
 pub loop-i-init : goal.loop-i-init

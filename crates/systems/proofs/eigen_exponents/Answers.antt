@@ -1,4 +1,3 @@
-use Prim.Native.Nat.{◌-◌}
 use native.Mathlib.Omega.{arith}
 use Rattle.sizes.specs.Sizes.{n_max}
 use Rattle.lists.proofs.Tab.{tab-none, tab-more, tab-done}

@@ -1,11 +1,9 @@
-use Prim.Native.Nat.{◌-◌}
 use native.Mathlib.Omega.{arith}
 use Rattle.integers.proofs.Machine.{back}
 use Rattle.integers.proofs.Ranges.{fits}
 use Rattle.sizes.specs.Sizes.{n_max}
 use Rattle.lists.proofs.Tab.{tab-none, tab-more, tab-done}
 use Rattle.jobs.specs.Zero.{zero_equation}
-use Rattle.systems.specs.Kinds.{linear_equation}
 use Rattle.systems.proofs.linear_equations.Goals as goal
 
 pub loop-i-init : goal.loop-i-init

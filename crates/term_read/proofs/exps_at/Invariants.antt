@@ -7,7 +7,6 @@ use lib.ListN.{get_or}
 use Rattle.sizes.specs.Sizes.{n_max}
 use Rattle.lists.specs.Loops.{tab, all_b}
 use Rattle.digits.specs.Bytes.{digit0}
-use Rattle.term_text.specs.Terms.{exponents}
 use Rattle.digits.specs.Digits.{is_digit}
 use Rattle.reading.specs.Places.{part}
 use Rattle.term_read.proofs.exps_at.Given as goal

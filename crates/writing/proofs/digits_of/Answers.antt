@@ -1,4 +1,4 @@
-use Prim.Native.Nat.{suc, ◌-◌, ◌*◌, ◌^◌}
+use Prim.Native.Nat.{suc, ◌*◌, ◌^◌}
 use native.Mathlib.Omega.{arith}
 use native.Mathlib.Nat.{pow-zero, pow-suc}
 use native.Mathlib.Numerals.{add-one}

@@ -1,6 +1,4 @@
-use mathlib.Core.Bool.{true}
 use mathlib.Core.Path.{refl, sym, ◌∙◌}
-use Prim.Native.Nat.{◌-◌}
 use native.Mathlib.Omega.{arith}
 use Rattle.lists.specs.Loops.{all_b}
 use Rattle.lists.proofs.All.{all_more, all-stop, all_done}

@@ -1,4 +1,4 @@
--- `floodrafter_c::lists::floodrafter_halve` meets its contract.
+-- `floodrafter_c::listed::floodrafter_halve` meets its contract.
 use mir.Facts.{to_z-of_z}
 use Rattle.floodrafter_c.proofs.listed.floodrafter_halve.Goals as goal
 

@@ -1,5 +1,4 @@
 use mathlib.Core.Path.{refl, sym, ◌∙◌}
-use Prim.Native.Nat.{◌-◌}
 use native.Mathlib.Omega.{arith}
 use Rattle.job_read.proofs.Passing.{passed_none, passed-more, passed-bad, passed-done}
 use Rattle.job_read.proofs.ends.system_end.Goals as goal

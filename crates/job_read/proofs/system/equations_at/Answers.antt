@@ -1,5 +1,4 @@
 use mathlib.Core.Path.{sym, ◌∙◌}
-use Prim.Native.Nat.{◌-◌}
 use native.Mathlib.Omega.{arith}
 use Rattle.line_read.proofs.Tells.{equation-tells}
 use Rattle.job_read.proofs.Systems.{walked_none, walked_more, walked-bad, walked-done, poly-adds}

@@ -1,7 +1,5 @@
-use Prim.Native.Nat.{◌-◌}
 use native.Mathlib.Omega.{arith}
 use mathlib.Core.Path.{sym, ap, ◌∙◌}
-use mathlib.Core.Bool.{true}
 use Rattle.lists.proofs.All.{all_none, all_more, all-stop, all_done}
 use Rattle.room_form.specs.declared.Room.{Room}
 use Rattle.room_form.specs.Table.{rooms_max, is_whole}

@@ -1,5 +1,4 @@
 use mathlib.Core.Path.{ap₂}
-use Prim.Native.Nat.{◌-◌}
 use native.Mathlib.Omega.{arith}
 use lib.IntN.{ℤ}
 use Rattle.sizes.specs.Sizes.{n_max}
