@@ -23,7 +23,7 @@ use Rattle.step.specs.Decide.{step_of}
 use Rattle.step.specs.Meanings.{Empty, Strictly, Unchanged}
 use Rattle.step.specs.Values.{box_of, ends_of, inverse_of}
 use Rattle.one_step.specs.OneStep.{box_check, image_check, decide_check, gives_image, move_to, gives_move}
-use Rattle.one_step.proofs.Given as goal
+use Rattle.one_step.proofs.Given as given
 use Rattle.run.specs.Job.{run_from, result_of, run_job}
 use Rattle.result_form.specs.ResultShows.{show_result}
 use Rattle.promises.specs.ByTwo.{run_by_two}
@@ -74,7 +74,7 @@ module _ (j : Job) (checked : check_job j ≡ Status.Done) where
 
 -- "A box handed in is checked like a job's lo and hi,": by the very checks of these lines
 pub checked-alike : (n : ℕ) (x : Ends) → box_check n x ≡ first_of (low_check n x.lo) (high_check n x.lo x.hi)
-checked-alike = goal.box-alike
+checked-alike = given.box-alike
 
 -- "K cut with X, the order of the three tests .. stay as they are": of any X and K that are taken, each verdict comes
 -- exactly where document 01 says
