@@ -1,9 +1,6 @@
 -- `desk::rewrite_job` meets its contract.
-use mathlib.Core.Path.{subst}
-use Rattle.faults.specs.Answer.{Leaves}
-use Rattle.job_form.specs.declared.JobRead.{JobRead}
-use Rattle.desk.specs.Desk.{written_status, written_text, job_status, job_text}
-use Rattle.desk.proofs.Answer.{read-bad, read-good}
+use Rattle.desk.specs.Desk.{job_status, job_text}
+use Rattle.desk.proofs.Answer.{read-bad, read-good, written-as}
 use Rattle.desk.proofs.Taken.{job-taken}
 use Rattle.desk.proofs.rewrite_job.Goals as goal
 
@@ -20,7 +17,4 @@ unfolding job_status job_text
 returns-in-Done c =
     let done = c.in-Done.is in
     let taken = job-taken _ c.read_job-read.ensures done in
-    subst
-    (λ (r : JobRead). Leaves (written_status r) (written_text r) c.args.out.now c.write_ready.new.out c.write_ready.result)
-    c.read_job-read.ensures
-    (read-good done (rw taken c.write_ready.ensures))
+    written-as c.read_job-read.result c.read_job-read.ensures (read-good done (rw taken c.write_ready.ensures))

@@ -1,33 +1,38 @@
+use mathlib.Core.List.{List}
 use mathlib.Core.Path.{◌≡◌, sym, ◌∙◌}
+use Prim.Native.Nat.{ℕ, ◌-◌, ◌≤◌, ◌<◌}
 use native.Mathlib.Nat.{sub-zero}
 use native.Mathlib.Omega.{arith}
-use borrow.Author.Rules.{rules}
-use Rattle.intervals.specs.Places.{entry_at, side_at}
-use Rattle.jobs.specs.Places.{equation_at}
-use Rattle.slopes.specs.Terms.{values_over, slopes_over}
-use Rattle.step.specs.Step.{image_box}
-use Rattle.step.proofs.Imaged.{m-in, asked, image-is}
-use Rattle.step.proofs.Filled.{room-zero, filled_none, filled_more}
-use Rattle.step.proofs.Filled.{filled-values, filled-slopes, filled-room}
-use Rattle.run.proofs.Turns.{run-turn, run_end, next-box}
-use mathlib.Core.List.{List}
-use Prim.Native.Nat.{ℕ}
 use lib.IntN.{ℤ}
+use borrow.Author.Rules.{rules}
 use Rattle.intervals.specs.Interval.{point_i}
-use Rattle.intervals.specs.Places.{cell_at, vector_of}
+use Rattle.intervals.specs.Places.{entry_at, side_at, cell_at, vector_of}
 use Rattle.intervals.specs.declared.Interval.{Interval}
+use Rattle.jobs.specs.Places.{equation_at}
 use Rattle.jobs.specs.declared.Equation.{Equation}
 use Rattle.step.specs.Ranges.{StepIn}
-use Rattle.step.specs.Step.{middle_of, image_from}
+use Rattle.step.specs.Step.{middle_of, image_from, image_box}
+use Rattle.step.specs.Decide.{decide_of}
+use Rattle.step.specs.declared.Decision.{Decision}
+use Rattle.step.proofs.Imaged.{m-in, asked, image-is}
+use Rattle.step.proofs.Filled.{Filled, room-zero, filled_none, filled_more}
+use Rattle.step.proofs.Filled.{filled-values, filled-slopes, filled-room}
+use Rattle.run.specs.Run.{run_of}
+use Rattle.run.specs.declared.Outcome.{Outcome}
+use Rattle.run.proofs.Turns.{turned, run-turn, run_end, next-box}
 use Rattle.run.proofs.run_steps.Goals as goal
 
--- K, from what a turn has made
-imaged : (n : ℕ) (q : ℕ → Equation) (C : ℕ → ℕ → ℤ) (x m f : List Interval) (s : List (List Interval)) {k : List Interval}
-    → StepIn n q C (side_at x) → m ≡ vector_of n (λ i. point_i (middle_of (side_at x) i))
-    → f ≡ values_over n q (side_at m) → s ≡ slopes_over n q (side_at x)
-    → k ≡ vector_of n (image_from n C (side_at x) (side_at m) (side_at f) (cell_at s)) → k ≡ image_box n q C x
+-- K, and the whole run at the decision of a turn, from what the turn has made
+turn : (n : ℕ) (q : ℕ → Equation) (C : ℕ → ℕ → ℤ) (x m f : List Interval) (s : List (List Interval))
+    (allowance done i : ℕ) {k : List Interval} {d : Decision} {o : Outcome}
+    → done < allowance → StepIn n q C (side_at x) × (run_of n q C (allowance - done) done x ≡ o)
+    → m ≡ vector_of n (λ j. point_i (middle_of (side_at x) j)) → Filled n i q (side_at m) (side_at x) f s → n ≤ i
+    → k ≡ vector_of n (image_from n C (side_at x) (side_at m) (side_at f) (cell_at s)) → d ≡ decide_of n x k
+    → (k ≡ image_box n q C x) × (o ≡ turned n q C allowance done d)
 unfolding image_box
-imaged n q C x m f s h a b d e = e ∙ image-is h a b d
+turn n q C x m f s allowance done i l h a g e w v =
+    let image = w ∙ image-is h.0 a (filled-values _ _ _ _ g e) (filled-slopes _ _ _ _ g e) in
+    (image, run-turn n q C allowance done x l image v h.1)
 
 pub loop-done-init : goal.loop-done-init
 loop-done-init c = ((omega arith, room-zero _), (c.requires, rw sub-zero))
@@ -78,50 +83,44 @@ loop-i-preserved c =
 -- K
 pub image-k-requires : goal.image-k-requires
 image-k-requires c =
-    asked c.loop-done.invariant.1.0 c.middles-m.ensures (filled-values _ _ _ _ c.loop-i.invariant c.loop-i-test.false) (filled-slopes _ _ _ _ c.loop-i.invariant c.loop-i-test.false)
+    asked c.loop-done.invariant.1.0 c.middles-m.ensures
+    (filled-values _ _ _ _ c.loop-i.invariant c.loop-i-test.false)
+    (filled-slopes _ _ _ _ c.loop-i.invariant c.loop-i-test.false)
 
 pub decide-d-requires : goal.decide-d-requires
 decide-d-requires c = c.loop-done.invariant.1.0.box.places
 
 pub returns-in-None : goal.returns-in-None
 returns-in-None c =
-    let image = imaged c.args.n (equation_at c.args.eqs) (entry_at c.args.c) c.loop-done.x c.middles-m.result c.loop-i.f
-    c.loop-i.s c.loop-done.invariant.1.0 c.middles-m.ensures (filled-values _ _ _ _ c.loop-i.invariant c.loop-i-test.false)
-    (filled-slopes _ _ _ _ c.loop-i.invariant c.loop-i-test.false) c.image-k.ensures in
-    let decided = run-turn _ _ _ c.args.allowance c.loop-done.done c.loop-done.x (omega arith) image c.decide-d.ensures
-    c.loop-done.invariant.1.1 in
-    c.ended.ensures ∙ sym (rw c.in-None.is at decided)
+    let t = turn c.args.n (equation_at c.args.eqs) (entry_at c.args.c) c.loop-done.x c.middles-m.result c.loop-i.f
+    c.loop-i.s c.args.allowance c.loop-done.done c.loop-i.i (omega arith) c.loop-done.invariant.1 c.middles-m.ensures
+    c.loop-i.invariant c.loop-i-test.false c.image-k.ensures c.decide-d.ensures in
+    c.ended.ensures ∙ sym (rw c.in-None.is at t.1)
 
 pub returns-in-Unique : goal.returns-in-Unique
 returns-in-Unique c =
-    let image = imaged c.args.n (equation_at c.args.eqs) (entry_at c.args.c) c.loop-done.x c.middles-m.result c.loop-i.f
-    c.loop-i.s c.loop-done.invariant.1.0 c.middles-m.ensures (filled-values _ _ _ _ c.loop-i.invariant c.loop-i-test.false)
-    (filled-slopes _ _ _ _ c.loop-i.invariant c.loop-i-test.false) c.image-k.ensures in
-    let decided = run-turn _ _ _ c.args.allowance c.loop-done.done c.loop-done.x (omega arith) image c.decide-d.ensures
-    c.loop-done.invariant.1.1 in
-    c.ended-in-Unique.ensures ∙ sym (rw c.in-Unique.is at decided)
+    let t = turn c.args.n (equation_at c.args.eqs) (entry_at c.args.c) c.loop-done.x c.middles-m.result c.loop-i.f
+    c.loop-i.s c.args.allowance c.loop-done.done c.loop-i.i (omega arith) c.loop-done.invariant.1 c.middles-m.ensures
+    c.loop-i.invariant c.loop-i-test.false c.image-k.ensures c.decide-d.ensures in
+    c.ended-in-Unique.ensures ∙ sym (rw c.in-Unique.is at t.1)
 
 pub returns-in-Stalled : goal.returns-in-Stalled
 returns-in-Stalled c =
-    let image = imaged c.args.n (equation_at c.args.eqs) (entry_at c.args.c) c.loop-done.x c.middles-m.result c.loop-i.f
-    c.loop-i.s c.loop-done.invariant.1.0 c.middles-m.ensures (filled-values _ _ _ _ c.loop-i.invariant c.loop-i-test.false)
-    (filled-slopes _ _ _ _ c.loop-i.invariant c.loop-i-test.false) c.image-k.ensures in
-    let decided = run-turn _ _ _ c.args.allowance c.loop-done.done c.loop-done.x (omega arith) image c.decide-d.ensures
-    c.loop-done.invariant.1.1 in
-    c.ended-in-Stalled.ensures ∙ sym (rw c.in-Stalled.is at decided)
+    let t = turn c.args.n (equation_at c.args.eqs) (entry_at c.args.c) c.loop-done.x c.middles-m.result c.loop-i.f
+    c.loop-i.s c.args.allowance c.loop-done.done c.loop-i.i (omega arith) c.loop-done.invariant.1 c.middles-m.ensures
+    c.loop-i.invariant c.loop-i-test.false c.image-k.ensures c.decide-d.ensures in
+    c.ended-in-Stalled.ensures ∙ sym (rw c.in-Stalled.is at t.1)
 
 pub loop-done-preserved : goal.loop-done-preserved
 loop-done-preserved c =
-    let image = imaged c.args.n (equation_at c.args.eqs) (entry_at c.args.c) c.loop-done.x c.middles-m.result c.loop-i.f
-    c.loop-i.s c.loop-done.invariant.1.0 c.middles-m.ensures (filled-values _ _ _ _ c.loop-i.invariant c.loop-i-test.false)
-    (filled-slopes _ _ _ _ c.loop-i.invariant c.loop-i-test.false) c.image-k.ensures in
-    let decided = run-turn _ _ _ c.args.allowance c.loop-done.done c.loop-done.x (omega arith) image c.decide-d.ensures
-    c.loop-done.invariant.1.1 in
+    let t = turn c.args.n (equation_at c.args.eqs) (entry_at c.args.c) c.loop-done.x c.middles-m.result c.loop-i.f
+    c.loop-i.s c.args.allowance c.loop-done.done c.loop-i.i (omega arith) c.loop-done.invariant.1 c.middles-m.ensures
+    c.loop-i.invariant c.loop-i-test.false c.image-k.ensures c.decide-d.ensures in
     let l = c.loop-done in
-    let box = next-box l.x l.invariant.1.0 image c.decide-d.ensures c.in-Next.is in (
+    let box = next-box l.x l.invariant.1.0 t.0 c.decide-d.ensures c.in-Next.is in (
       (omega arith, filled-room _ _ _ _ c.loop-i.invariant c.loop-i-test.false),
       (
         record { system = l.invariant.1.0.system; inverse = l.invariant.1.0.inverse; box = box },
-        sym (rw c.in-Next.is at decided),
+        sym (rw c.in-Next.is at t.1),
       ),
     )
