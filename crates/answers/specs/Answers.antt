@@ -75,7 +75,8 @@ line_key = 108 ∷ 105 ∷ 110 ∷ 101 ∷ 61 ∷ []
 unfoldable pub fault_bytes : Status → List ℕ
 fault_bytes st =
     end_each line_feed
-    ((fault_key ++ show_magnitude digits_max (number_of st)) ∷ (line_key ++ show_magnitude digits_max (line_of st)) ∷ [])
+    ((fault_key ++ show_magnitude digits_max (number_of st)) ∷ (line_key ++ show_magnitude digits_max (line_of st)) ∷
+    [])
 
 -- bytes that every answer fits in
 abbrev pub room_max : ℕ

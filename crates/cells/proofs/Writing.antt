@@ -39,4 +39,5 @@ pub length-put : (bs : List ℕ) (a : ℕ) (t : List ℕ)
     → sets (sets bs (a + 4) t) a (number_bytes (length t)) ≡ sets bs a (cell t)
 unfolding number_bytes
 length-put bs a t =
-    sets-swap bs (a + 4) t a (number_bytes (length t)) (omega arith) ∙ sym (sets-append bs a (number_bytes (length t)) t)
+    sets-swap bs (a + 4) t a (number_bytes (length t)) (omega arith)
+    ∙ sym (sets-append bs a (number_bytes (length t)) t)

@@ -73,7 +73,8 @@ module _ (q : Equation) (n : ℕ) where
         deg = λ k l. leb-true (degree n (exp_of (term_at q k))) degree_max
             (and_right (not (eqb (nat_abs (term_at q k).coef) 0)) _ (term k l));
         order = λ k l.
-            falls-order _ _ n (sym (next-order q n k) ∙ and_right (good_term (term_at q (k + 1)) n) _ (place (k + 1) l));
+            falls-order _ _ n (sym (next-order q n k) ∙ and_right (good_term (term_at q (k + 1)) n) _
+            (place (k + 1) l));
       }
     where
       few : q.count ≤ terms_max
@@ -194,8 +195,7 @@ check_done j e =
       pin = pin-good j.head.kind j.head.n j.head.pin c.pin;
       low = all-within j.ends.lo j.head.n end_max (unless-fine _ Fault.Beyond c.low);
       high = all-within j.ends.hi j.head.n end_max (unless-fine _ Fault.Beyond (fine-first _ _ c.high));
-      ordered =
-          all-ordered j.ends.lo j.ends.hi j.head.n (unless-fine _ Fault.Crossed (fine-next _ _ c.high));
+      ordered = all-ordered j.ends.lo j.ends.hi j.head.n (unless-fine _ Fault.Crossed (fine-next _ _ c.high));
       inverse = λ i l. all-within (row_at j.inv i) j.head.n entry_max
           (all-each _ j.head.n i l (unless-fine _ Fault.Beyond c.inverse));
       steps = leb-true j.steps steps_max (unless-fine _ Fault.Steps c.steps);

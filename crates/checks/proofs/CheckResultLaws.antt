@@ -27,7 +27,8 @@ pub record Sound (r : Result) : Type 0 where
   pub ordered : all_ordered r.lo r.hi r.n ≡ true
 
 pub sound : (r : Result) → check_result r ≡ Status.Done → Sound r
-unfolding check_result result_line_status result_check visit_check counted_check number_check steps_check low_check high_check
+unfolding check_result result_line_status result_check visit_check counted_check number_check steps_check low_check
+    high_check
 sound r e =
     let visit = done_next _ _ e in
     let steps = done_next _ _ (done_next _ _ visit) in
@@ -46,9 +47,8 @@ sound r e =
     }
 
 pub unfaulted : (r : Result) → Sound r → check_result r ≡ Status.Done
-unfolding
-    check_result result_line_status result_check visit_check counted_check count_check number_check steps_check low_check
-    high_check
+unfolding check_result result_line_status result_check visit_check counted_check count_check number_check steps_check
+    low_check high_check
 unfaulted r s =
     both-done (line-fine _ (fine-unless Fault.Beyond (le-leb r.number number_max s.number)))
     (both-done (line-fine _ (fine-unless Fault.Beyond (le-leb r.visit visit_max s.visit)))

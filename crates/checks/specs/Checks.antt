@@ -58,7 +58,8 @@ low_check n lo = bad_unless (good_ends lo n) Fault.Beyond
 
 -- "Fault 5 belongs to the `hi` line"
 unfoldable pub high_check : ℕ → List ℤ → List ℤ → Finding
-high_check n lo hi = first_of (bad_unless (good_ends hi n) Fault.Beyond) (bad_unless (all_ordered lo hi n) Fault.Crossed)
+high_check n lo hi = first_of (bad_unless (good_ends hi n) Fault.Beyond)
+    (bad_unless (all_ordered lo hi n) Fault.Crossed)
 
 unfoldable pub inverse_check : ℕ → List Row → Finding
 inverse_check n inv = bad_unless (good_matrix inv n) Fault.Beyond

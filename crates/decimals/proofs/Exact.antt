@@ -106,7 +106,8 @@ bad-is : {A : Type 0} (m : ℕ) → Magnitude.Bad ≡ Magnitude.Is m → A
 bad-is m e = absurd (let z : ◌≡◌ {A = ℕ} 0 1 = cc in omega arith)
 
 -- digits go on after what was spelled
-spelled-on : (v u : ℕ) (xs ys : List ℕ) → digits_from v xs ≡ Magnitude.Is u → digits_from v (xs ++ ys) ≡ digits_from u ys
+spelled-on : (v u : ℕ) (xs ys : List ℕ) → digits_from v xs ≡ Magnitude.Is u
+    → digits_from v (xs ++ ys) ≡ digits_from u ys
 unfolding digits_from
 spelled-on v u [] ys e = let w : v ≡ u = cc in rw w
 spelled-on v u (b ∷ xs) ys e =

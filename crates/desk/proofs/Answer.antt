@@ -24,5 +24,6 @@ module _ {st : Status} {t old : List ℕ} where
 
 -- what is made of a reader's answer is made of its equal
 pub written-as : (r : JobRead) {s : JobRead} {old new : List ℕ} {a : Written}
-    → r ≡ s → Leaves (written_status r) (written_text r) old new a → Leaves (written_status s) (written_text s) old new a
+    → r ≡ s → Leaves (written_status r) (written_text r) old new a
+    → Leaves (written_status s) (written_text s) old new a
 written-as r {s} {old} {new} {a} e l = subst (λ (x : JobRead). Leaves (written_status x) (written_text x) old new a) e l

@@ -52,7 +52,8 @@ no_more [] h = refl
 no_more (b ∷ bs) h = absurd (omega arith)
 
 -- digits that begin with no 0
-lead : (m b : ℕ) (bs : List ℕ) → suc (length bs) ≤ digits_max → (b ≡ digit0 → ⊥) → digits_from 0 (b ∷ bs) ≡ Magnitude.Is m
+lead : (m b : ℕ) (bs : List ℕ) → suc (length bs) ≤ digits_max → (b ≡ digit0 → ⊥)
+    → digits_from 0 (b ∷ bs) ≡ Magnitude.Is m
     → show_magnitude digits_max m ≡ b ∷ bs
 lead m b bs h n e =
     let d = digit-is 0 m b bs e in

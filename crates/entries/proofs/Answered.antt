@@ -18,7 +18,8 @@ use Rattle.job_form.proofs.Answers as job
 use Rattle.result_form.specs.ResultForm.{read_result}
 use Rattle.result_form.proofs.Trips as result-trips
 use Rattle.result_form.proofs.Answers as result
-use Rattle.desk.specs.Desk.{job_status, job_text, result_status, result_text, run_status, run_text, solve_status, solve_text}
+use Rattle.desk.specs.Desk.{job_status, job_text, result_status, result_text, run_status, run_text, solve_status}
+use Rattle.desk.specs.Desk.{solve_text}
 use Rattle.runs.proofs.Results.{run-done, run-checked}
 use Rattle.promises.proofs.Results.{run_short}
 

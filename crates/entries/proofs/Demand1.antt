@@ -146,7 +146,8 @@ module _ (t old new : List ℕ) (r : ℕ) where
       → (r ≡ 0) × (new ≡ old)
   explain-job-none = explained.no-fault (read_job t).status
 
-  pub explain-job-some : Explains (found_in (read_job t).status) old new r → 0 < (told (read_job t).status).number → 0 < r
+  pub explain-job-some : Explains (found_in (read_job t).status) old new r → 0 < (told (read_job t).status).number
+      → 0 < r
   explain-job-some = explained.a-fault (read_job t).status
 
   pub explain-job-whole : (e : Explains (found_in (read_job t).status) old new r) → sentence_max ≤ length old

@@ -118,7 +118,8 @@ numbered : (f : Fault) → fault_number f ≡ 0 → ⊥
 numbered f e = omega (arith, number-some f)
 
 -- "When writing, faults of the values come before 7"
-written-told : (st : Status) (old t : List ℕ) → told (answer_of st old t).status ≡ or_else (told st) (short_buffer old t)
+written-told : (st : Status) (old t : List ℕ) → told (answer_of st old t).status
+    ≡ or_else (told st) (short_buffer old t)
 unfolding answer_of
 written-told Status.Done old t = by (ltb (length old) (length t))
   where

@@ -38,7 +38,8 @@ module _ (ps : List (List ℕ)) where
     pub given-held : take (given ps).held (given ps).bytes ≡ rest line_feed (joined_parts ps)
     given-held = rw (given-all ps) (held-line (joined_parts ps) few)
 
-    pub given-read : state_of (given ps).read ≡ foldl (step job_form_of) (begin job_form_of) (pieces line_feed (joined_parts ps))
+    pub given-read : state_of (given ps).read ≡ foldl (step job_form_of) (begin job_form_of)
+        (pieces line_feed (joined_parts ps))
     given-read = rw (given-all ps) (read-lines (joined_parts ps) few)
 
 nothing_read : read_job (joined_parts []) ≡ refused_with (Status.Refused Fault.Spelling 1)

@@ -39,7 +39,8 @@ module _ (ps : List (List ℕ)) (few : length (joined_parts ps) ≤ text_max) wh
   one_line = parts.given-held ps few
 
   -- "and what is already read": what the lines say that have ended, or the first bad one's fault and number
-  pub already-read : state_of (given ps).read ≡ foldl (step job_form_of) (begin job_form_of) (pieces line_feed (joined_parts ps))
+  pub already-read : state_of (given ps).read ≡ foldl (step job_form_of) (begin job_form_of)
+      (pieces line_feed (joined_parts ps))
   already-read = parts.given-read ps few
 
 -- bytes are counted to the end, and the count stops one over the limit
@@ -52,7 +53,8 @@ never-refused = parts.given-done
 
 -- 4, line 0, exactly where a count, a length or a line number is beyond its limits; the state is handed back as it was,
 module _ (p : Parts) where
-  pub refused-exactly : (part : List ℕ) → ((part_taken p part).status ≡ Status.Refused Fault.Beyond 0) ↔ (fits p ≡ false)
+  pub refused-exactly : (part : List ℕ) → ((part_taken p part).status ≡ Status.Refused Fault.Beyond 0) ↔
+      (fits p ≡ false)
   refused-exactly = parts.beyond-exactly p
 
   pub handed-back : (part : List ℕ) → fits p ≡ false

@@ -12,10 +12,12 @@ use Rattle.faults.specs.Words.{fault_number}
 use Rattle.faults.specs.Checks.{bad_unless, on_line, and_then, lines_of}
 use Rattle.faults.proofs.Laws.{line_first, fine-skips, then-assoc}
 use Rattle.jobs.specs.Lines.{pin_lines, system_number}
-use Rattle.checks.specs.Checks.{number_check, unknowns_check, pin_check, low_check, high_check, inverse_check, steps_check}
+use Rattle.checks.specs.Checks.{number_check, unknowns_check, pin_check, low_check, high_check, inverse_check}
+use Rattle.checks.specs.Checks.{steps_check}
 use Rattle.checks.specs.Checks.{equation_check, row_check, sided_check, system_check, line_check}
 use Rattle.checks.specs.Checks.{job_line_status, system_lines, head_lines, body_lines, check_job}
-use Rattle.checks.specs.CheckResult.{visit_check, count_check, counted_check, result_check, result_line_status, check_result}
+use Rattle.checks.specs.CheckResult.{visit_check, count_check, counted_check, result_check, result_line_status}
+use Rattle.checks.specs.CheckResult.{check_result}
 use Rattle.faults.specs.declared.Fault.{Fault}
 use Rattle.halving.specs.Halving.{depth_status, room_status, halve_status}
 use Rattle.one_step.specs.OneStep.{ends_check, image_status, decide_check, decide_status}
@@ -119,9 +121,8 @@ none n = by (eqb n 0) refl
         some h = omega arith
 
 pub result-tells : (r : Result) → Tells (result_rows r) (check_result r)
-unfolding
-    check_result result_line_status result_check visit_check counted_check count_check number_check steps_check low_check
-    high_check
+unfolding check_result result_line_status result_check visit_check counted_check count_check number_check steps_check
+    low_check high_check
 result-tells r =
     rw (
       ← over r.number number_max,

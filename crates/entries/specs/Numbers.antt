@@ -1,7 +1,8 @@
 -- Document 01, "Fault numbers": what is told of an entry's status, and for values which fault, as a table. "lines are
 -- taken in order and the first bad line decides; in one line 2 comes before the others, then 3, then 4, then 5 or 6",
 -- "values handed over without text get the same checks in the same line order".
-use Rattle.std.specs.Prelude.{ℕ, zero, suc, ◌+◌, ◌/◌, ◌^◌, Bool, cond, not, List, [], ◌∷◌, ◌++◌, eqb, ltb, leb, ℤ, pos, nat_abs, length, get_or}
+use Rattle.std.specs.Prelude.{ℕ, zero, suc, ◌+◌, ◌/◌, ◌^◌, Bool, cond, not, List, [], ◌∷◌, ◌++◌, eqb, ltb, leb, ℤ}
+use Rattle.std.specs.Prelude.{pos, nat_abs, length, get_or}
 use Rattle.sizes.specs.Sizes.{n_max, steps_max, number_max, visit_max, end_max, entry_max, image_max}
 use Rattle.jobs.specs.Places.{equation_at, row_at}
 use Rattle.term_checks.specs.Ranges.{is_within, all_within, all_ordered}

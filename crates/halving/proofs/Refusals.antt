@@ -47,7 +47,8 @@ module _ (depth : ℤ) where
   in-range e = unless-fine (depth_in depth) Fault.Steps (fine-line _ 0 e)
 
 -- as a number without a sign
-pub depth-cast : (depth : ℤ) → SFits w64 depth → lt_z depth (pos 0) ≡ false → T (non_neg depth) × Fits w64 (nat_abs depth)
+pub depth-cast : (depth : ℤ) → SFits w64 depth → lt_z depth (pos 0) ≡ false
+    → T (non_neg depth) × Fits w64 (nat_abs depth)
 depth-cast (pos d) f t = (tt, record { fits = omega (arith, f.sfits) })
 depth-cast (negsuc d) f t = absurd (true≢false t)
 

@@ -27,7 +27,8 @@ use Rattle.visits.proofs.Readings.{few, next-stands, next-live, next-visit}
 use Rattle.room_form.specs.declared.Room.{Room}
 use Rattle.room_form.specs.Table.{rooms_max, table_size, slot_from, slot_size, last_in, taken_room, is_visit}
 use Rattle.room_form.specs.Table.{room_at, is_whole, whole}
-use Rattle.room_form.specs.Calls.{unless, table_status, cleared, lowest_free, next_visit, open_status, opened, with_visitor}
+use Rattle.room_form.specs.Calls.{unless, table_status, cleared, lowest_free, next_visit, open_status, opened}
+use Rattle.room_form.specs.Calls.{with_visitor}
 use Rattle.room_form.specs.Calls.{held_status}
 use Rattle.room_form.proofs.Whole.{by-rooms, whole_long, whole-last, whole_each}
 use Rattle.room_form.proofs.Visited.{visited-together, are-together, held_at, at-visited, at-stands}
@@ -183,7 +184,8 @@ module _ (t : List ℕ) (slot visit : ℕ) (good : is_bad (held_status t slot vi
 
   pub closed-formed : whole (sets t (slot_from slot) (zeros slot_size)) ≡ true
   closed-formed =
-      formed-from t (sets t (slot_from slot) (zeros slot_size)) slot (length-sets t (slot_from slot) (zeros slot_size)) e
+      formed-from t (sets t (slot_from slot) (zeros slot_size)) slot
+      (length-sets t (slot_from slot) (zeros slot_size)) e
       (omega (arith, close-last t slot (whole_long t e) inside, whole-last t e))
       (ap (λ (r : Room). is_whole r.standing) (close-own t slot (whole_long t e) inside))
       (λ i l ne. close_other t slot (whole_long t e) inside i ne)

@@ -24,7 +24,8 @@ use Rattle.cells.specs.Cells.{number_at, cell, text_at}
 use Rattle.cells.proofs.Parts.{part-before, part-behind, part-inside}
 use Rattle.cells.proofs.Cells.{number-before, text-before, text-behind, number_behind}
 use Rattle.cells.proofs.Cells.{length_back, text-back, cell-length}
-use Rattle.room_form.specs.Table.{rooms_max, reading_from, reading_most, job_from, job_most, slot_size, table_size, slot_from}
+use Rattle.room_form.specs.Table.{rooms_max, reading_from, reading_most, job_from, job_most, slot_size, table_size}
+use Rattle.room_form.specs.Table.{slot_from}
 use Rattle.room_form.specs.Table.{slot_in, last_in, is_visit}
 use Rattle.room_form.proofs.PutReading.{reading-short}
 use Rattle.room_form.proofs.Opening.{job-short}
@@ -130,7 +131,12 @@ module _ (s : List ℕ) (j : Job) (r : Result) (long : length s ≡ slot_size) (
       some = λ e.
           text-some text (ap (λ (x : JobRead). x.status) read)
           (sym (length_back s' job_from text room (omega (arith, fits))) ∙ e);
-      reading-fits = omega (arith, number-before s' reading_from job_from (cell text) (omega arith), length-there, short);
+      reading-fits = omega (
+        arith,
+        number-before s' reading_from job_from (cell text) (omega arith),
+        length-there,
+        short,
+      );
       job-fits = omega (arith, length_back s' job_from text room (omega (arith, fits)), fits);
       job = ap read_job (text-back s' job_from text room (omega (arith, fits))) ∙ read;
       reading = ap read_result (text-before s' reading_from job_from (cell text) (omega (arith, length-there, short)))

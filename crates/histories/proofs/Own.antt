@@ -40,7 +40,8 @@ module _ (t text : List ℕ) (done : open_status t text ≡ Status.Done) (h : Li
   pub own-reading : Holds (after_all (opened t text) h) k v j
       (reading_of v j (run_from j (start_of j) (min calls j.steps)))
   own-reading =
-      subst (Holds (after_all (opened t text) h) k v j) (steps-add j (read-checked text (open-read t text done)) v calls)
+      subst (Holds (after_all (opened t text) h) k v j) (steps-add j (read-checked text (open-read t text done)) v
+      calls)
       (isolated h (opened t text) k v j _ (opened-holds t text done) stays)
 
 -- no slot below the lowest free one is free
@@ -70,7 +71,8 @@ two-histories h g t u k v i w j r first second stays remains same =
 -- numbers
 pub same-readings : (h g : List Call) (t u text : List ℕ) → open_status t text ≡ Status.Done
     → open_status u text ≡ Status.Done → Stays (lowest_free t) (next_visit t) h → Stays (lowest_free u) (next_visit u) g
-    → own_steps (lowest_free t) (next_visit t) (opened t text) h ≡ own_steps (lowest_free u) (next_visit u) (opened u text) g
+    → own_steps (lowest_free t) (next_visit t) (opened t text) h
+    ≡ own_steps (lowest_free u) (next_visit u) (opened u text) g
     → with_visit (reads_after t text h) 0 ≡ with_visit (reads_after u text g) 0
 same-readings h g t u text first second stays remains same =
     ap (λ (room : Room). with_visit room.reading 0) (own-reading t text first h stays).room

@@ -83,7 +83,8 @@ module _ (t text : List ℕ) (done : open_status t text ≡ Status.Done) where
     pub none-no-zero : (reads h).verdict ≡ Verdict.None → (p : Point) → Solves j p → Lies n p (start_of j) → ⊥
     none-no-zero says = demand.none-no-zero j checked (allowed h) (sym verdict-run ∙ says)
 
-    pub at_most_one : (reads h).verdict ≡ Verdict.Unique → (p r : Point) → Solves j p → Solves j r → Lies n p (start_of j)
+    pub at_most_one : (reads h).verdict ≡ Verdict.Unique → (p r : Point) → Solves j p → Solves j r
+        → Lies n p (start_of j)
         → Lies n r (start_of j) → Same n p r
     at_most_one says = demand.at_most_one j checked (allowed h) (sym verdict-run ∙ says)
 

@@ -85,7 +85,8 @@ open-or-not t slot visit e = go (ltb slot rooms_max && holds (room_at t slot) vi
     go false q = inr (rw (e, q) refl)
 
 -- no job text has a fault of the table
-text-fault : (text : List ℕ) (f : Fault) (n : ℕ) → (read_job text).status ≡ Status.Refused f n → fault_number f ≤ fault_max
+text-fault : (text : List ℕ) (f : Fault) (n : ℕ) → (read_job text).status ≡ Status.Refused f n
+    → fault_number f ≤ fault_max
 text-fault text f n e =
     either text_max (length text)
     (λ long. same-fault (sym (read-status text ∙ ap status_of (read-long job_form_of text long)) ∙ e))

@@ -26,7 +26,8 @@ use Rattle.promises.specs.Jobs.{job_run, Solves}
 use Rattle.visits.specs.Visits.{reading_of, next_reading, times, opened_as}
 use Rattle.visits.proofs.Steps as steps
 use Rattle.room_form.specs.Table.{table_size, free_room, last_in, room_at, whole}
-use Rattle.room_form.specs.Calls.{clear_status, cleared, is_free, lowest_free, next_visit, open_status, opened, is_taken}
+use Rattle.room_form.specs.Calls.{clear_status, cleared, is_free, lowest_free, next_visit, open_status, opened}
+use Rattle.room_form.specs.Calls.{is_taken}
 use Rattle.room_form.specs.Calls.{held_status, after_step, finished, stepped, closed}
 use Rattle.histories.specs.Histories.{Call, after, after_all, Holds, own_steps, Stays, reads_after, box_after}
 use Rattle.room_form.proofs.Visited.{HeldAt}
@@ -107,7 +108,8 @@ own-calls-only = own.own-reading
 -- read alike but for their numbers
 pub own-job-only : (h g : List Call) (t u text : List ℕ) → open_status t text ≡ Status.Done
     → open_status u text ≡ Status.Done → Stays (lowest_free t) (next_visit t) h → Stays (lowest_free u) (next_visit u) g
-    → own_steps (lowest_free t) (next_visit t) (opened t text) h ≡ own_steps (lowest_free u) (next_visit u) (opened u text) g
+    → own_steps (lowest_free t) (next_visit t) (opened t text) h
+    ≡ own_steps (lowest_free u) (next_visit u) (opened u text) g
     → with_visit (reads_after t text h) 0 ≡ with_visit (reads_after u text g) 0
 own-job-only = own.same-readings
 
@@ -143,7 +145,8 @@ module _ (t text : List ℕ) (done : open_status t text ≡ Status.Done) where
     pub zero-kept : (p : Point) → Solves j p → Lies n p (start_of j) → Lies n p (box_after t text h)
     zero-kept = per-visit.zero-kept t text done h stays
 
-    pub none-no-zero : (reads_after t text h).verdict ≡ Verdict.None → (p : Point) → Solves j p → Lies n p (start_of j) → ⊥
+    pub none-no-zero : (reads_after t text h).verdict ≡ Verdict.None → (p : Point) → Solves j p
+        → Lies n p (start_of j) → ⊥
     none-no-zero = per-visit.none-no-zero t text done h stays
 
     -- "and "unique" means there is at most one."

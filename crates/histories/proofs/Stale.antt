@@ -55,7 +55,8 @@ refused-gone t k v e h bad = record {
   handed = h;
   gone = λ l.
       not-not _
-      (sym (ap (λ (b : Bool). not (b && holds (room_at t k) v)) (lt-ltb k rooms_max l)) ∙ sym (status-is t k v e) ∙ bad);
+      (sym (ap (λ (b : Bool). not (b && holds (room_at t k) v)) (lt-ltb k rooms_max l)) ∙ sym (status-is t k v e)
+      ∙ bad);
 }
   where
     not-not : (b : Bool) → not b ≡ true → b ≡ false
@@ -100,7 +101,8 @@ module _ (t : List ℕ) (k v : ℕ) (g : Gone t k v) where
             ∙ ap (λ (i : ℕ). holds (room_at t i) v) (sym e) ∙ g.gone l;
       }) (λ ne. as_before _ (omega (arith, last)) (λ l. moved_other t slot visit good k ne))
 
-  close-gone : (slot visit : ℕ) → is_bad (held_status t slot visit) ≡ false → Is (sets t (slot_from slot) (zeros slot_size))
+  close-gone : (slot visit : ℕ) → is_bad (held_status t slot visit) ≡ false
+      → Is (sets t (slot_from slot) (zeros slot_size))
   close-gone slot visit good =
       let at = held_at t slot visit good in
       let long = whole_long t at.is-whole in

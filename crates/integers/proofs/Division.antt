@@ -24,7 +24,13 @@ module _ (m : ℕ) (h : 0 < m) where
       no r k = omega zorder
   rem-neg (negsuc a) e = floor-unique m h (neg_ℤ (pos (suc a / m)) -ℤ pos 1) (negsuc a)
       (simp zlin
-      (omega (zorder, div-add-mod (suc a) m, mod-lt (suc a) h, neg-pos_part (pos (suc a / m)), neg-neg_part (pos (suc a / m)))))
+      (omega (
+        zorder,
+        div-add-mod (suc a) m,
+        mod-lt (suc a) h,
+        neg-pos_part (pos (suc a / m)),
+        neg-neg_part (pos (suc a / m)),
+      )))
       (simp zlin (omega (
         zorder,
         div-add-mod (suc a) m,
@@ -52,7 +58,13 @@ module _ (m : ℕ) (h : 0 < m) where
         neg-neg_part (pos (suc a % m)),
       )))
       (simp zlin
-      (omega (zorder, div-add-mod (suc a) m, mod-lt (suc a) h, neg-pos_part (pos (suc a / m)), neg-neg_part (pos (suc a / m)))))
+      (omega (
+        zorder,
+        div-add-mod (suc a) m,
+        mod-lt (suc a) h,
+        neg-pos_part (pos (suc a / m)),
+        neg-neg_part (pos (suc a / m)),
+      )))
     where
       k : pos 0 ≤ℤ neg_ℤ (pos (suc a % m))
       k = lt_z-false (neg_ℤ (pos (suc a % m))) (pos 0) e

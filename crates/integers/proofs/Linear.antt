@@ -1,5 +1,6 @@
 -- Linear arithmetic of integers by omega. `simp zlin` takes an order, an equation or a range of integers to one of
--- naturals: it moves all to the left, flattens the sum, and hands each summand x over as pos_part x on one side and neg_part x on the
+-- naturals: it moves all to the left, flattens the sum, and hands each summand x over as pos_part x on one side and
+-- neg_part x on the
 -- other.
 use mathlib.Core.Path.{◌≡◌, refl, sym, ap, ◌∙◌}
 use mathlib.Core.Logic.{◌↔◌}
@@ -26,18 +27,22 @@ pub eq-lq : (a b : ℤ) → (a ≡ b) ↔ (pos_part (a -ℤ b) + 0 ≡ neg_part 
 eq-lq a b = ((λ h. omega (zorder, sub-pn a b)), λ h. omega (zorder, sub-pn a b))
 
 -- a sum at the first, second or third place of either side, taken apart
-pub lq-add1p : (a b : ℤ) (u v : ℕ) → (pos_part (a +ℤ b) + u ≤ neg_part (a +ℤ b) + v) ↔ (pos_part a + (pos_part b + u) ≤ neg_part a + (neg_part b + v))
+pub lq-add1p : (a b : ℤ) (u v : ℕ) → (pos_part (a +ℤ b) + u ≤ neg_part (a +ℤ b) + v) ↔
+    (pos_part a + (pos_part b + u) ≤ neg_part a + (neg_part b + v))
 lq-add1p a b u v = ((λ h. omega (arith, add-pn a b)), λ h. omega (arith, add-pn a b))
 
-pub lq-add1n : (a b : ℤ) (u v : ℕ) → (neg_part (a +ℤ b) + u ≤ pos_part (a +ℤ b) + v) ↔ (neg_part a + (neg_part b + u) ≤ pos_part a + (pos_part b + v))
+pub lq-add1n : (a b : ℤ) (u v : ℕ) → (neg_part (a +ℤ b) + u ≤ pos_part (a +ℤ b) + v) ↔
+    (neg_part a + (neg_part b + u) ≤ pos_part a + (pos_part b + v))
 lq-add1n a b u v = ((λ h. omega (arith, add-pn a b)), λ h. omega (arith, add-pn a b))
 
 pub lq-add2p : (a b : ℤ) (x y u v : ℕ)
-    → (x + (pos_part (a +ℤ b) + u) ≤ y + (neg_part (a +ℤ b) + v)) ↔ (pos_part a + (pos_part b + (x + u)) ≤ neg_part a + (neg_part b + (y + v)))
+    → (x + (pos_part (a +ℤ b) + u) ≤ y + (neg_part (a +ℤ b) + v)) ↔
+    (pos_part a + (pos_part b + (x + u)) ≤ neg_part a + (neg_part b + (y + v)))
 lq-add2p a b x y u v = ((λ h. omega (arith, add-pn a b)), λ h. omega (arith, add-pn a b))
 
 pub lq-add2n : (a b : ℤ) (x y u v : ℕ)
-    → (x + (neg_part (a +ℤ b) + u) ≤ y + (pos_part (a +ℤ b) + v)) ↔ (neg_part a + (neg_part b + (x + u)) ≤ pos_part a + (pos_part b + (y + v)))
+    → (x + (neg_part (a +ℤ b) + u) ≤ y + (pos_part (a +ℤ b) + v)) ↔
+    (neg_part a + (neg_part b + (x + u)) ≤ pos_part a + (pos_part b + (y + v)))
 lq-add2n a b x y u v = ((λ h. omega (arith, add-pn a b)), λ h. omega (arith, add-pn a b))
 
 pub lq-add3p : (a b : ℤ) (w x y z u v : ℕ)
@@ -50,18 +55,22 @@ pub lq-add3n : (a b : ℤ) (w x y z u v : ℕ)
     ↔ (neg_part a + (neg_part b + (w + (x + u))) ≤ pos_part a + (pos_part b + (y + (z + v))))
 lq-add3n a b w x y z u v = ((λ h. omega (arith, add-pn a b)), λ h. omega (arith, add-pn a b))
 
-pub eq-add1p : (a b : ℤ) (u v : ℕ) → (pos_part (a +ℤ b) + u ≡ neg_part (a +ℤ b) + v) ↔ (pos_part a + (pos_part b + u) ≡ neg_part a + (neg_part b + v))
+pub eq-add1p : (a b : ℤ) (u v : ℕ) → (pos_part (a +ℤ b) + u ≡ neg_part (a +ℤ b) + v) ↔
+    (pos_part a + (pos_part b + u) ≡ neg_part a + (neg_part b + v))
 eq-add1p a b u v = ((λ h. omega (arith, add-pn a b)), λ h. omega (arith, add-pn a b))
 
-pub eq-add1n : (a b : ℤ) (u v : ℕ) → (neg_part (a +ℤ b) + u ≡ pos_part (a +ℤ b) + v) ↔ (neg_part a + (neg_part b + u) ≡ pos_part a + (pos_part b + v))
+pub eq-add1n : (a b : ℤ) (u v : ℕ) → (neg_part (a +ℤ b) + u ≡ pos_part (a +ℤ b) + v) ↔
+    (neg_part a + (neg_part b + u) ≡ pos_part a + (pos_part b + v))
 eq-add1n a b u v = ((λ h. omega (arith, add-pn a b)), λ h. omega (arith, add-pn a b))
 
 pub eq-add2p : (a b : ℤ) (x y u v : ℕ)
-    → (x + (pos_part (a +ℤ b) + u) ≡ y + (neg_part (a +ℤ b) + v)) ↔ (pos_part a + (pos_part b + (x + u)) ≡ neg_part a + (neg_part b + (y + v)))
+    → (x + (pos_part (a +ℤ b) + u) ≡ y + (neg_part (a +ℤ b) + v)) ↔
+    (pos_part a + (pos_part b + (x + u)) ≡ neg_part a + (neg_part b + (y + v)))
 eq-add2p a b x y u v = ((λ h. omega (arith, add-pn a b)), λ h. omega (arith, add-pn a b))
 
 pub eq-add2n : (a b : ℤ) (x y u v : ℕ)
-    → (x + (neg_part (a +ℤ b) + u) ≡ y + (pos_part (a +ℤ b) + v)) ↔ (neg_part a + (neg_part b + (x + u)) ≡ pos_part a + (pos_part b + (y + v)))
+    → (x + (neg_part (a +ℤ b) + u) ≡ y + (pos_part (a +ℤ b) + v)) ↔
+    (neg_part a + (neg_part b + (x + u)) ≡ pos_part a + (pos_part b + (y + v)))
 eq-add2n a b x y u v = ((λ h. omega (arith, add-pn a b)), λ h. omega (arith, add-pn a b))
 
 pub eq-add3p : (a b : ℤ) (w x y z u v : ℕ)
@@ -117,7 +126,8 @@ pn-mag (pos n) H h k = omega arith
 pn-mag (negsuc n) H h k = omega arith
 
 pub sfits-lq : (w : Width) (z : ℤ)
-    → SFits w z ↔ ((pos_part z + 1 ≤ neg_part z + 2 ^ hbits w) × (pos_part (neg_ℤ z) + 0 ≤ neg_part (neg_ℤ z) + 2 ^ hbits w))
+    → SFits w z ↔ ((pos_part z + 1 ≤ neg_part z + 2 ^ hbits w)
+    × (pos_part (neg_ℤ z) + 0 ≤ neg_part (neg_ℤ z) + 2 ^ hbits w))
 sfits-lq w z = (
   (λ h. (
     omega (arith, mag-pn z (2 ^ hbits w) h.sfits),
@@ -134,7 +144,8 @@ pn-abs : (z : ℤ) (B : ℕ) → pos_part z ≤ neg_part z + B → neg_part z �
 pn-abs (pos n) H h k = omega arith
 pn-abs (negsuc n) H h k = omega arith
 
-pub abs-lq : (z : ℤ) (B : ℕ) → (nat_abs z ≤ B) ↔ ((pos_part z + 0 ≤ neg_part z + B) × (pos_part (neg_ℤ z) + 0 ≤ neg_part (neg_ℤ z) + B))
+pub abs-lq : (z : ℤ) (B : ℕ) → (nat_abs z ≤ B) ↔ ((pos_part z + 0 ≤ neg_part z + B)
+    × (pos_part (neg_ℤ z) + 0 ≤ neg_part (neg_ℤ z) + B))
 abs-lq z B = (
   (λ h. (omega (arith, abs-pn z), omega (arith, abs-pn z, neg-pos_part z, neg-neg_part z))),
   λ h. pn-abs z B (omega arith) (omega (arith, neg-pos_part z, neg-neg_part z)),

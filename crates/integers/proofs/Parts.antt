@@ -1,4 +1,5 @@
--- An integer as the difference of two naturals, pos_part z - neg_part z, one of them 0: the orders and the equation of integers
+-- An integer as the difference of two naturals, pos_part z - neg_part z, one of them 0: the orders and the equation
+-- of integers
 -- become those of naturals, which omega reads.
 use mathlib.Core.Path.{◌≡◌, refl, ap, subst}
 use mathlib.Core.Bool.{Bool, true, false, not, cond}
@@ -81,7 +82,8 @@ sub-pn : (a b : ℕ) → pos_part (sub_ℕ a b) + b ≡ neg_part (sub_ℕ a b) +
 sub-pn a b = by (ltb a b) (ltb→lt a b) (nltb→le a b)
   where
     by : (t : Bool) → (T t → a < b) → (T (not t) → b ≤ a)
-        → pos_part (cond t (negsuc (b - suc a)) (pos (a - b))) + b ≡ neg_part (cond t (negsuc (b - suc a)) (pos (a - b))) + a
+        → pos_part (cond t (negsuc (b - suc a)) (pos (a - b))) + b
+        ≡ neg_part (cond t (negsuc (b - suc a)) (pos (a - b))) + a
     by true f g = omega (arith, f tt)
     by false f g = omega (arith, g tt)
 

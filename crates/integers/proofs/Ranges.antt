@@ -14,7 +14,15 @@ use Rattle.integers.proofs.Parts.{zorder, neg-pos_part, neg-neg_part}
 use Rattle.integers.proofs.Linear.{zlin, abs-pn, abs-lq}
 
 pub within : (z : ℤ) (B : ℕ) → neg_ℤ (pos B) ≤ℤ z → z ≤ℤ pos B → Within z B
-within z B h k = record { abs = (abs-lq z B).1 (omega (zorder, neg-pos_part (pos B), neg-neg_part (pos B), neg-pos_part z, neg-neg_part z)) }
+within z B h k = record {
+  abs = (abs-lq z B).1 (omega (
+    zorder,
+    neg-pos_part (pos B),
+    neg-neg_part (pos B),
+    neg-pos_part z,
+    neg-neg_part z,
+  ));
+}
 
 pub within-hi : {z : ℤ} {B : ℕ} → Within z B → z ≤ℤ pos B
 within-hi {z} h = omega (zorder, abs-pn z)

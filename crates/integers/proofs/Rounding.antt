@@ -74,7 +74,11 @@ module _ (m : ℕ) (h : 0 < m) where
 
   pub floor≤ceil : (x : ℤ) → floor_by m x ≤ℤ ceil_by m x
   floor≤ceil x =
-      under (floor_by m x) (ceil_by m x) (simp zlin (omega (zorder, simp zlin at (floor-le x), simp zlin at (ceil-ge x))))
+      under (floor_by m x) (ceil_by m x) (simp zlin (omega (
+        zorder,
+        simp zlin at (floor-le x),
+        simp zlin at (ceil-ge x),
+      )))
 
   -- two numbers rounded by themselves, and their sum rounded once
   pub floor-super : (x y : ℤ) → (floor_by m x +ℤ floor_by m y) ≤ℤ floor_by m (x +ℤ y)
@@ -94,7 +98,14 @@ module _ (m : ℕ) (h : 0 < m) where
       low =
           floor-greatest (neg_ℤ (pos B)) x
           (rw (*ℤ-neg (pos m) (pos B))
-          (omega (zorder, within-lo w, neg-pos_part (pos (m * B)), neg-neg_part (pos (m * B)), neg-pos_part (pos A), neg-neg_part (pos A))))
+          (omega (
+            zorder,
+            within-lo w,
+            neg-pos_part (pos (m * B)),
+            neg-neg_part (pos (m * B)),
+            neg-pos_part (pos A),
+            neg-neg_part (pos A),
+          )))
 
       high : floor_by m x ≤ℤ pos B
       high = under (floor_by m x) (pos B) (omega (zorder, floor-le x, within-hi w))

@@ -119,7 +119,8 @@ late-fold (l ∷ ls) s h =
 module _ (held : ℕ) where
   -- what the lines make of two states
   abbrev Same : Job·State → Job·State → List (List ℕ) → Type 0
-  Same s u ls = ended job_form_of (foldl (step job_form_of) s ls) held ≡ ended form_before (foldl (step form_before) u ls) held
+  Same s u ls = ended job_form_of (foldl (step job_form_of) s ls) held
+      ≡ ended form_before (foldl (step form_before) u ls) held
 
   same_ended : (s : Job·State) → ended job_form_of s held ≡ ended form_before s held
   unfolding ended
@@ -212,7 +213,8 @@ last-pinned t j u e =
         plain-last j.head.kind j.head.n j.head.pin k (ap (λ (x : Job). x.head.pin) only)
     go (Shape.last k b) s only = pin-last j k b ∙ ap (λ (x : Kind). last_pin x j.head.n) (sym k)
     go (Shape.pinned k b) s only =
-        absurd (true≢false (sym (pinned-fourth j k b) ∙ ap (λ (ls : List (List ℕ)). starts_with pin_key (get_or ls 3 [])) s
+        absurd (true≢false (sym (pinned-fourth j k b) ∙ ap (λ (ls : List (List ℕ)). starts_with pin_key
+        (get_or ls 3 [])) s
         ∙ u.fourth))
 
 -- ---- the reader's answers

@@ -131,7 +131,8 @@ module _ (j : Job) where
   both-fourth b =
       ap (λ (f : Finding). checks.on_line f 4) (shown-last b)
       ∙ line_first (line_check JobLine.Pin j) (line_check JobLine.Lo j) 4
-      ∙ ap (λ (n : ℕ). and_then (checks.on_line (line_check JobLine.Pin j) 4) (checks.on_line (line_check JobLine.Lo j) n))
+      ∙ ap (λ (n : ℕ). and_then (checks.on_line (line_check JobLine.Pin j) 4)
+      (checks.on_line (line_check JobLine.Lo j) n))
       (sym (low-fourth b))
 
   no_pin : after_n j.head.kind ≡ JobLine.Lo → (s : Status) → and_then (job_line_status JobLine.Pin j) s ≡ s

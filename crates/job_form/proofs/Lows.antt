@@ -15,7 +15,8 @@ use Rattle.jobs.specs.declared.Head.{Head}
 use Rattle.jobs.specs.declared.Job.{Job}
 use Rattle.jobs.specs.declared.JobLine.{JobLine}
 use Rattle.jobs.specs.Lines.{pin_stands, after_n}
-use Rattle.checks.specs.Checks.{number_check, unknowns_check, pin_check, low_check, inverse_check, steps_check, line_check}
+use Rattle.checks.specs.Checks.{number_check, unknowns_check, pin_check, low_check, inverse_check, steps_check}
+use Rattle.checks.specs.Checks.{line_check}
 use Rattle.reading.specs.Got.{Got}
 use Rattle.reading.specs.Shows.{lines_of, Passed}
 use Rattle.reading.proofs.Walk.{passed-join, passed-front, passed-rest}
@@ -132,7 +133,8 @@ module _ (v u : Job) where
           (ap found check ∙ (passed-rest job_shows v ks (k ∷ []) p).0, tt);
     }
 
-    pub alike-passed : Passed job_shows ks v → found (shown_check k u) ≡ Got.got tt → Passed job_shows (ls ++ (k ∷ [])) u
+    pub alike-passed : Passed job_shows ks v → found (shown_check k u) ≡ Got.got tt
+        → Passed job_shows (ls ++ (k ∷ [])) u
     alike-passed p e = passed-join job_shows u ls (k ∷ []) (a.passed p) (e, tt)
 
 -- ---- the lines of the box after lo

@@ -218,7 +218,8 @@ module _ (j : Job) where
       rw (ap after_n e, b)
       (Tied.one {k = JobLine.Pin} {ks = JobLine.Hi ∷ JobLine.Inv ∷ JobLine.Steps ∷ system} refl (rw b rest))
   low (Shape.pinned e b) =
-      let lo : Tied job_form_of job_shows j JobLine.Lo (JobLine.Lo ∷ JobLine.Hi ∷ JobLine.Inv ∷ JobLine.Steps ∷ system) =
+      let lo : Tied job_form_of job_shows j JobLine.Lo (JobLine.Lo ∷ JobLine.Hi ∷ JobLine.Inv ∷ JobLine.Steps ∷
+      system) =
       Tied.one refl rest in
       rw (ap after_n e, b)
       (Tied.one {k = JobLine.Pin} {ks = JobLine.Lo ∷ JobLine.Hi ∷ JobLine.Inv ∷ JobLine.Steps ∷ system} refl (rw b lo))

@@ -16,7 +16,8 @@ use Rattle.jobs.specs.Lines.{after_n, job_number}
 use Rattle.jobs.specs.Zero.{no_job}
 use Rattle.lines.specs.Lines.{number_of, kind_of, unknowns_of, pin_of, low_of, high_of, inverse_of, steps_of}
 use Rattle.lines.specs.Lines.{equation_of, row_of, Sided, sided_of, misspelled}
-use Rattle.jobs.specs.Parts.{with_number, with_kind, with_unknowns, with_pin, with_lo, with_hi, with_inverse, with_steps}
+use Rattle.jobs.specs.Parts.{with_number, with_kind, with_unknowns, with_pin, with_lo, with_hi, with_inverse}
+use Rattle.jobs.specs.Parts.{with_steps}
 use Rattle.jobs.specs.Parts.{with_equation, with_row, with_side}
 use Rattle.job_form.specs.declared.JobRead.{JobRead}
 

@@ -88,10 +88,12 @@ bad-line r bytes e =
     ∙ sym (ap (λ (s : State Fault JobLine Job). step job_form_of s (line_of bytes 0)) (bad-state r e))
 
 -- the next line takes what is read a step further
-line-state : (r : Read) (bytes : List ℕ) → state_of (line_taken r bytes) ≡ step job_form_of (state_of r) (line_of bytes 0)
+line-state : (r : Read) (bytes : List ℕ) → state_of (line_taken r bytes)
+    ≡ step job_form_of (state_of r) (line_of bytes 0)
 line-state r bytes = go (eqb r.fault 0) refl
   where
-    go : (b : Bool) → eqb r.fault 0 ≡ b → state_of (line_taken r bytes) ≡ step job_form_of (state_of r) (line_of bytes 0)
+    go : (b : Bool) → eqb r.fault 0 ≡ b → state_of (line_taken r bytes)
+        ≡ step job_form_of (state_of r) (line_of bytes 0)
     go true e = good-line r bytes (eqb-true r.fault 0 e)
     go false e = bad-line r bytes e
 
@@ -248,7 +250,8 @@ module _ (t : List ℕ) (few : length t ≤ text_max) where
   pub held-line : take (bytes_taken begun t).held (bytes_taken begun t).bytes ≡ rest line_feed t
   held-line = sym same.line ∙ ap (λ (c : Cut (State Fault JobLine Job)). c.held) cut
 
-  pub read-lines : state_of (bytes_taken begun t).read ≡ foldl (step job_form_of) (begin job_form_of) (pieces line_feed t)
+  pub read-lines : state_of (bytes_taken begun t).read ≡ foldl (step job_form_of) (begin job_form_of)
+      (pieces line_feed t)
   read-lines = sym same.state ∙ ap (λ (c : Cut (State Fault JobLine Job)). c.st) cut
 
 -- the count stops one over the limit
@@ -258,7 +261,8 @@ size-counted t = go (like-bytes t like-begun)
     come : (more job_form_of (opened job_form_of) t).size ≡ length t
     come = unfold more in (unfold opened in (omega arith))
 
-    go : Like (bytes_taken begun t) (more job_form_of (opened job_form_of) t) → (bytes_taken begun t).size ≡ min (length t) size_max
+    go : Like (bytes_taken begun t) (more job_form_of (opened job_form_of) t)
+        → (bytes_taken begun t).size ≡ min (length t) size_max
     go (inl s) = omega (arith, s.few, s.size, come)
     go (inr o) = omega (arith, o.full, o.over, come)
 

@@ -88,7 +88,8 @@ module _ (j : Job) where
       ∙ ap bytes (map-append (λ k. job_line k j) (system_kinds i) (JobLine.System i ∷ []))
       ∙ end-append (lines_of job_shows j (system_kinds i)) (system_text j.head.kind j i ∷ []))
 
-  pub system-grows : (i m : ℕ) → i ≤ m → length (lines_bytes j (system_kinds i)) ≤ length (lines_bytes j (system_kinds m))
+  pub system-grows : (i m : ℕ) → i ≤ m → length (lines_bytes j (system_kinds i)) ≤ length
+      (lines_bytes j (system_kinds m))
   system-grows i zero h = let e : i ≡ 0 = omega arith in rw e (omega arith)
   system-grows i (suc m) h =
       either i (suc m)

@@ -38,8 +38,7 @@ module _ (t : List ℕ) (j : Job) (a : ℕ) (h : a ≤ length t) {m : ℕ} {st :
   unfolding job_says
   number-leads e =
       line-leads job_form_of t JobLine.Number j a h refl number_of (λ x. record {
-        kind =
-            JobLine.Kind;
+        kind = JobLine.Kind;
         value = with_number j x;
       })
       refl (count-tells _ _ e)
@@ -50,8 +49,7 @@ module _ (t : List ℕ) (j : Job) (a : ℕ) (h : a ≤ length t) {m : ℕ} {st :
   unfolding job_says
   kind-leads e =
       line-leads job_form_of t JobLine.Kind j a h refl kind_of (λ x. record {
-        kind =
-            JobLine.Unknowns;
+        kind = JobLine.Unknowns;
         value = with_kind j x;
       })
       refl (kind-tells _ _ e)
@@ -72,8 +70,7 @@ module _ (t : List ℕ) (j : Job) (a : ℕ) (h : a ≤ length t) {m : ℕ} {st :
     unfolding job_says
     low-leads e q w =
         line-leads job_form_of t JobLine.Lo j a h refl (low_of head.n) (λ x. record {
-          kind =
-              JobLine.Hi;
+          kind = JobLine.Hi;
           value = with_lo j x;
         })
         (ap {B = List ℕ → Got Fault (Next JobLine Job)}
@@ -122,7 +119,8 @@ unknowns-whole t a m {st} {r} {head} e q n good =
 
 -- a bad line of the head
 module _ {t : List ℕ} {st : Status} {k : JobLine} {v : Job} {b : ℕ} {r : HeadAt}
-    (w : Leads job_form_of t 0 JobLine.Number no_job st k v b) (bad : is_bad st ≡ true) (e : (r.status ≡ st) × (r.next ≡ 0))
+    (w : Leads job_form_of t 0 JobLine.Number no_job st k v b) (bad : is_bad st ≡ true)
+    (e : (r.status ≡ st) × (r.next ≡ 0))
   where
     pub names-stop : NamesFrom t r
     names-stop = record {

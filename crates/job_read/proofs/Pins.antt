@@ -50,7 +50,8 @@ module _ (t : List ℕ) (j : Job) (a : ℕ) (inside : a ≤ length t) where
   unfolding job_says line_at
   said-pin key = rw key
 
-  said-low : starts_with pin_key (line_of t a) ≡ false → said (job_says JobLine.Pin j) t a ≡ said (job_says JobLine.Lo j) t a
+  said-low : starts_with pin_key (line_of t a) ≡ false → said (job_says JobLine.Pin j) t a
+      ≡ said (job_says JobLine.Lo j) t a
   unfolding job_says line_at
   said-low key = rw key
 

@@ -28,7 +28,11 @@ abbrev pub zero_ends : Ends
 zero_ends = record { lo = replicate n_max (pos 0); hi = replicate n_max (pos 0) }
 
 abbrev pub zero_body : Body
-zero_body = record { eqs = replicate n_max zero_equation; rows = replicate n_max zero_row; right = replicate n_max (pos 0) }
+zero_body = record {
+  eqs = replicate n_max zero_equation;
+  rows = replicate n_max zero_row;
+  right = replicate n_max (pos 0);
+}
 
 abbrev pub no_job : Job
 no_job = record { head = zero_head; ends = zero_ends; inv = replicate n_max zero_row; steps = 0; system = zero_body }

@@ -1,6 +1,7 @@
 // The zero values, which stand beside a fault and past n.
 ghost use Rattle.std.specs.Prelude.{◌≡◌};
-ghost use Rattle.jobs.specs.Zero.{zero_term, zero_equation, zero_row, zero_head, zero_ends, zero_body, no_job, no_result};
+ghost use Rattle.jobs.specs.Zero.{zero_term, zero_equation, zero_row, zero_head, zero_ends, zero_body};
+ghost use Rattle.jobs.specs.Zero.{no_job, no_result};
 
 use crate::{Body, Ends, Equation, Head, Job, Kind, Result, Row, Term, Verdict};
 use sizes::{N, TERMS};

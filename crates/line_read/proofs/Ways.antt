@@ -77,7 +77,8 @@ module _ {L X : Type 0} (form : Form Fault L X) (t : List ℕ) where
         → Leads form t a k v s m y c
     leads-stop m y bad e = rw (e.0, e.1) record { goes = go st bad p.goes }
       where
-        go : (s : Status) → is_bad s ≡ true → Goes form t a k v (state_of s l x) b → Goes form t a k v (state_of s m y) 0
+        go : (s : Status) → is_bad s ≡ true → Goes form t a k v (state_of s l x) b
+            → Goes form t a k v (state_of s m y) 0
         go Status.Done e w = absurd (false≢true e)
         go (Status.Refused f n) e w =
             record { inside = omega arith; same = goes-bad form t w ∙ sym (rest-bad form t f n 0) }
@@ -121,7 +122,8 @@ line-passed {A} f check t a {b} {next} {found} {x} m {st} p q good =
     passed : (e : Bool) (y : A) → cond e (passing (f (part t a (line_end t a))) check) misspelled ≡ Got.got y
         → check y ≡ Got.got tt
     passed true y w =
-        ((told-passing {P = λ z. Unit {0}} (f (part t a (line_end t a))) check (record { told = λ z u. tt })).told y w).1
+        ((told-passing {P = λ z. Unit {0}} (f (part t a (line_end t a))) check (record { told = λ z u. tt })).told y
+        w).1
     passed false y w = fault-got w
 
     go : (g : Got Fault A) → said (λ l. passing (f l) check) t a ≡ g → check x ≡ Got.got tt

@@ -87,7 +87,8 @@ module _ (n : ℕ) (some : 0 < n) (few : n ≤ n_max) where
       rw (row-line-back Fault.Spelling lo_key n_max n lo some small few (omega arith), low-live n_max n few lo)
 
   pub high-back : (lo hi : List ℤ) → Small (placed n n hi)
-      → high_of n (placed n_max n lo) (row_text hi_key n hi) ≡ after (found (high_check n lo hi)) (λ u. placed n_max n hi)
+      → high_of n (placed n_max n lo) (row_text hi_key n hi) ≡ after (found (high_check n lo hi))
+      (λ u. placed n_max n hi)
   unfolding high_of passing
   high-back lo hi small =
       rw (row-line-back Fault.Spelling hi_key n_max n hi some small few (omega arith), high-live n_max n few lo hi)

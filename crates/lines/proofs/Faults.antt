@@ -14,7 +14,8 @@ use Rattle.text.specs.Keys.{body_of, same_bytes}
 use Rattle.text.specs.Lists.{places_max}
 use Rattle.text.specs.Words.{job_key, visit_key, n_key, pin_key, lo_key, hi_key, inv_key, steps_key, row_key}
 use Rattle.term_text.specs.Terms.{one_digit, read_equation}
-use Rattle.checks.specs.Checks.{unknowns_check, low_check, high_check, inverse_check, equation_check, row_check, sided_check}
+use Rattle.checks.specs.Checks.{unknowns_check, low_check, high_check, inverse_check, equation_check, row_check}
+use Rattle.checks.specs.Checks.{sided_check}
 use Rattle.checks.specs.CheckResult.{count_check, counted_check}
 use Rattle.jobs.specs.declared.Kind.{Kind}
 use Rattle.jobs.specs.declared.Verdict.{Verdict}

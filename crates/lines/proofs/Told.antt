@@ -41,7 +41,8 @@ module _ (n : ℕ) (some : 0 < n) (few : n ≤ n_max) (l : List ℕ) where
   unfolding low_of
   low_told = cells_told lo_key (low_check n)
 
-  pub high-told : (lo : List ℤ) → Told (LineWas (row_text hi_key n) (high_check n lo) (placed n_max n) l) (high_of n lo l)
+  pub high-told : (lo : List ℤ) → Told (LineWas (row_text hi_key n) (high_check n lo) (placed n_max n) l)
+      (high_of n lo l)
   unfolding high_of
   high-told lo = cells_told hi_key (high_check n lo)
 

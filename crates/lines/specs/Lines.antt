@@ -103,7 +103,8 @@ high_of n lo l = passing (numbers_of hi_key n_max n l) (λ hi. found (high_check
 -- inv=: "`inv` holds n times n numbers, row by row"
 unfoldable pub inverse_of : ℕ → List ℕ → Got Fault (List Row)
 inverse_of n l =
-    passing (after (numbers_of inv_key places_max (n * n) l) (λ vals. rows_of vals n)) (λ rows. found (inverse_check n rows))
+    passing (after (numbers_of inv_key places_max (n * n) l) (λ vals. rows_of vals n))
+    (λ rows. found (inverse_check n rows))
 
 -- row= of an eigenpair: n numbers
 unfoldable pub row_of : ℕ → List ℕ → Got Fault (List ℤ)

@@ -127,7 +127,8 @@ shape-alone n t a {r} w = go (ended_and t a those.ok) w.answer
     go false p = rw p
 
 -- an equation's line is its terms, then their check
-pub equation-is : (n : ℕ) → (λ l. passing (terms_is (read_equation n l)) (λ q. found (equation_check n q))) ≡ equation_of n
+pub equation-is : (n : ℕ) → (λ l. passing (terms_is (read_equation n l)) (λ q. found (equation_check n q)))
+    ≡ equation_of n
 unfolding equation_of terms_by terms_is passing after
 equation-is n = fun_ext (λ l. go (read_equation n l).ok (read_equation n l).far (read_equation n l).equation)
   where

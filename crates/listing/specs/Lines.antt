@@ -1,5 +1,6 @@
 -- The lines of a listing: `job=`, `boxes=`, then for each box `box=unique` or `box=open`, `lo=`, `hi=`.
-use Rattle.std.specs.Prelude.{ℕ, zero, suc, ◌+◌, ◌-◌, ◌*◌, ◌≤◌, ◌<◌, Bool, true, false, List, [], ◌∷◌, ◌++◌, ◌≡◌, ℤ, pos, length, take, drop, get_or}
+use Rattle.std.specs.Prelude.{ℕ, zero, suc, ◌+◌, ◌-◌, ◌*◌, ◌≤◌, ◌<◌, Bool, true, false, List, [], ◌∷◌, ◌++◌, ◌≡◌, ℤ}
+use Rattle.std.specs.Prelude.{pos, length, take, drop, get_or}
 use Rattle.sizes.specs.Sizes.{n_max}
 use Rattle.integers.specs.Equal.{eq_ℤ}
 use Rattle.digits.specs.Bytes.{line_feed}

@@ -41,7 +41,8 @@ module _ {ℓ} {A : Type ℓ} (d : A) where
   get_or-tab zero n f e i l h = absurd (not-suc-le-zero (le_trans l h))
   get_or-tab (suc m) zero f e i l h = absurd (not-suc-le-zero l)
   get_or-tab (suc m) (suc n) f e zero l h = refl
-  get_or-tab (suc m) (suc n) f e (suc i) l h = get_or-tab m n (λ j. f (suc j)) e i (le_of_suc-le-suc l) (le_of_suc-le-suc h)
+  get_or-tab (suc m) (suc n) f e (suc i) l h = get_or-tab m n (λ j. f (suc j)) e i (le_of_suc-le-suc l)
+      (le_of_suc-le-suc h)
 
   -- only what stands below n counts
   pub tab-cong : (m n : ℕ) (f g : ℕ → A) → ((i : ℕ) → i < n → f i ≡ g i) → tab m n d f ≡ tab m n d g

@@ -22,7 +22,8 @@ module _ (n : ℕ) (C C' : ℕ → ℕ → ℤ) (i : ℕ) (same : (k : ℕ) → 
   unfolding d_of
   d-cong f = ap out_i (dot-cong n (λ k l. ap point_i (same k l)) f)
 
-  pub b-cong : (S S' : ℕ → ℕ → Interval) (j : ℕ) → ((k : ℕ) → k < n → S k j ≡ S' k j) → b_of n C S i j ≡ b_of n C' S' i j
+  pub b-cong : (S S' : ℕ → ℕ → Interval) (j : ℕ) → ((k : ℕ) → k < n → S k j ≡ S' k j)
+      → b_of n C S i j ≡ b_of n C' S' i j
   unfolding b_of
   b-cong S S' j s = entry-cong n (λ k l. ap point_i (same k l)) s i j
 

@@ -106,7 +106,8 @@ module _ (j : Job) (passed : Passed job_shows (job_prior JobLine.End j) j) (many
 old-refuses : (j : Job) → check_job j ≡ Status.Done → n_old < j.head.n
     → read old_job_form (job_bytes j) ≡ Answer.refused Fault.Unknowns 3
 old-refuses j checked many =
-    lines-bad old_job_form (shown job_shows j) Fault.Unknowns 3 (all_above job_shows j (plain j) (job_prior JobLine.End j))
+    lines-bad old_job_form (shown job_shows j) Fault.Unknowns 3
+    (all_above job_shows j (plain j) (job_prior JobLine.End j))
     (omega (arith, job-width j (check_done j checked))) (lines-refused j (checked-passed j checked) many)
 
 pub right_new : (t : List ℕ) → (read_job t).status ≡ Status.Done → n_old < (read_job t).job.head.n

@@ -81,7 +81,8 @@ count_of x = go (leb 1 x.count) (leb x.count n_old) refl
 
     go : (some few : Bool) → leb x.count n_old ≡ few
         → NarrowLine Fault.Unknowns
-        (after (found (first_of (first_of (bad_unless some Fault.Spelling) (bad_unless few Fault.Unknowns)) low)) (λ u. x))
+        (after (found (first_of (first_of (bad_unless some Fault.Spelling) (bad_unless few Fault.Unknowns)) low))
+        (λ u. x))
         (after (found (first_of
         (first_of (bad_unless some Fault.Spelling) (bad_unless (leb x.count n_max) Fault.Unknowns)) low)) (λ u. x))
     go false few e = NarrowLine.same refl

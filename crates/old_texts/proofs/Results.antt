@@ -45,7 +45,8 @@ narrower = record { line = each; fewer = omega arith }
     each ResultLine.Hi r l = inl refl
     each ResultLine.End r l = inl refl
 
-old-answer : (t : List ℕ) → NarrowAnswer Fault.Unknowns 5 Fault.LongText (read old_result_form t) (read result_form_of t)
+old-answer : (t : List ℕ) → NarrowAnswer Fault.Unknowns 5 Fault.LongText (read old_result_form t)
+    (read result_form_of t)
 old-answer = narrow-read result_form_of old_result_says text_old Fault.Unknowns 5 narrower
 
 -- the same answer, or 3 on line 5, or 1
@@ -61,11 +62,13 @@ pub same_otherwise : (t : List ℕ) → ((n : ℕ) → (old_read_result t).statu
     → ((n : ℕ) → (old_read_result t).status ≡ Status.Refused Fault.Unknowns n → ⊥) → read_result t ≡ old_read_result t
 unfolding read_result old_read_result
 same_otherwise =
-    lines.same_otherwise (read old_result_form) (read result_form_of) old-answer result_answer (λ x. x.status) answer-status
+    lines.same_otherwise (read old_result_form) (read result_form_of) old-answer result_answer (λ x. x.status)
+    answer-status
 
 done-too : (t : List ℕ) → (old_read_result t).status ≡ Status.Done → read_result t ≡ old_read_result t
 unfolding read_result old_read_result
-done-too = lines.done-too (read old_result_form) (read result_form_of) old-answer result_answer (λ x. x.status) answer-status
+done-too = lines.done-too (read old_result_form) (read result_form_of) old-answer result_answer (λ x. x.status)
+    answer-status
 
 pub as_before : (t : List ℕ) (r : Result) → old_read_result t ≡ record { status = Status.Done; result = r }
     → (read_result t ≡ record { status = Status.Done; result = r }) × (show_result r ≡ t)
@@ -99,7 +102,8 @@ module _ (r : Result) (passed : Passed result_shows kinds r) (many : n_old < r.n
   unfolding step heard old_result_says after
   fifth-bad = rw (low-refused r.n r.lo many ((law r ResultLine.Lo tt refl).spelt passed.1.1.1.1.0))
 
-  lines-refused : foldl (step old_result_form) (begin old_result_form) (shown result_shows r) ≡ State.bad Fault.Unknowns 5
+  lines-refused : foldl (step old_result_form) (begin old_result_form) (shown result_shows r)
+      ≡ State.bad Fault.Unknowns 5
   lines-refused =
       ap (λ s. foldl (step old_result_form) s (drop 1 (shown result_shows r))) first_read
       ∙ ap (λ s. foldl (step old_result_form) s (drop 2 (shown result_shows r))) second-read

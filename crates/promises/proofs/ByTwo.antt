@@ -109,10 +109,12 @@ module _ (n : ℕ) (x k : Ends) (taken : decide_check n x k ≡ Finding.Fine) wh
   pub none-exactly : ((gives_move n x k).what ≡ Move.None) ↔ Empty n (side_at (box_of n x)) (side_at (box_of n k))
   none-exactly = rw what-is (exactly.none-exactly n (box_of n x) (box_of n k))
 
-  pub unique-exactly : ((gives_move n x k).what ≡ Move.Unique) ↔ Strictly n (side_at (box_of n x)) (side_at (box_of n k))
+  pub unique-exactly : ((gives_move n x k).what ≡ Move.Unique) ↔ Strictly n (side_at (box_of n x))
+      (side_at (box_of n k))
   unique-exactly = rw what-is (exactly.unique-exactly n (box_of n x) (box_of n k) (image-ordered n x k taken))
 
-  pub stalled-exactly : ((gives_move n x k).what ≡ Move.Stalled) ↔ Unchanged n (side_at (box_of n x)) (side_at (box_of n k))
+  pub stalled-exactly : ((gives_move n x k).what ≡ Move.Stalled) ↔ Unchanged n (side_at (box_of n x))
+      (side_at (box_of n k))
   stalled-exactly =
       rw what-is
       (exactly.stalled-exactly n (box_of n x) (box_of n k) (some n x k taken) (box-ordered n x k taken))

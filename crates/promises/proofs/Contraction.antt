@@ -77,7 +77,8 @@ module _ (n : ℕ) (q : ℕ → Equation) (C : ℕ → ℕ → ℤ) (X : ℕ →
   -- a row of difference quotients, weighed by the widths, fits the width of E: for each quotient take the end of Z that
   -- makes it greatest, then the one that makes it least
   spread : {P R : ℕ → ℤ} {d : ℤ} → InBox n P d X → InBox n R d X → (i : ℕ)
-      → sum_to n (λ j. abs_ℤ (quotient_num n q C P R d i j) *ℤ width_of X j) ≤ℤ (((E i).hi -ℤ (E i).lo) *ℤ newton_scale d)
+      → sum_to n (λ j. abs_ℤ (quotient_num n q C P R d i j) *ℤ width_of X j) ≤ℤ
+      (((E i).hi -ℤ (E i).lo) *ℤ newton_scale d)
   spread {P} {R} {d} h g i = rw (← apart, whole) (simp zlin (omega (zorder, up.high, down.low)))
     where
       B : ℕ → ℤ
@@ -112,7 +113,8 @@ module _ (n : ℕ) (q : ℕ → Equation) (C : ℕ → ℕ → ℤ) (X : ℕ →
           (λ j l. hold-quotient n q C X degrees h g i j l)
           (λ j l. (ends j l).1)
 
-      apart : sum_to n (λ j. B j *ℤ great j) -ℤ sum_to n (λ j. B j *ℤ least j) ≡ sum_to n (λ j. abs_ℤ (B j) *ℤ width_of X j)
+      apart : sum_to n (λ j. B j *ℤ great j) -ℤ sum_to n (λ j. B j *ℤ least j)
+          ≡ sum_to n (λ j. abs_ℤ (B j) *ℤ width_of X j)
       apart =
           sym (sum-sub n (λ j. B j *ℤ great j) (λ j. B j *ℤ least j))
           ∙ sum-cong n (λ j. B j *ℤ great j -ℤ B j *ℤ least j) (λ j. abs_ℤ (B j) *ℤ width_of X j) (λ j _. one j)
@@ -257,7 +259,8 @@ module _ (n : ℕ) (q : ℕ → Equation) (C : ℕ → ℕ → ℤ) (X : ℕ →
                 ∙ ap (λ (x : ℤ). x *ℤ width_of X a)
                 (abs-mul (P a -ℤ R a) (newton_scale d)
                 ∙ ap (λ (x : ℤ). gap P R a *ℤ x) (abs-pos (newton_scale d) (nonneg (scale-pos h.den))))
-                ∙ ring (gap P R a ∷ newton_scale d ∷ width_of X a ∷ []) (λ d m w. (d ⊗ m) ⊗ w) (λ d m w. d ⊗ (w ⊗ m)) refl
+                ∙ ring (gap P R a ∷ newton_scale d ∷ width_of X a ∷ []) (λ d m w. (d ⊗ m) ⊗ w) (λ d m w. d ⊗ (w ⊗ m))
+                refl
               where
                 images : newton_num n q C P d a -ℤ newton_num n q C R d a ≡ (P a -ℤ R a) *ℤ newton_scale d
                 images =

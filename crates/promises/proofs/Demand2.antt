@@ -107,7 +107,8 @@ module _ (j : Job) (checked : check_job j ≡ Status.Done) where
   -- "If the allowance is used up with none of the three reached, the verdict is spent with the box so far", and the
   -- whole allowance is counted.
   pub spent-exactly : (a : ℕ) → ((job_run j a).verdict ≡ Verdict.Spent)
-      ↔ ((Reaches (job_run j) a Misses → ⊥) × ((Reaches (job_run j) a Contains → ⊥) × (Reaches (job_run j) a Stays → ⊥)))
+      ↔ ((Reaches (job_run j) a Misses → ⊥) × ((Reaches (job_run j) a Contains → ⊥)
+      × (Reaches (job_run j) a Stays → ⊥)))
   spent-exactly = verdicts.spent-reached s accepted.some
 
   pub spent-answer : (a : ℕ) → (job_run j a).verdict ≡ Verdict.Spent → Begins (job_run j) a (job_run j a).sides

@@ -63,10 +63,9 @@ accepted = refl
 
 -- "unique, 1"
 pub answer : (job_run job11 1).verdict ≡ Verdict.Unique
-unfolding box_of run_of step_of image_box image_of decide_of all_meet all_inside all_b meets_i inside_i d_of b_of entry_b e_of dot_i
-    unit_z sum_i carry add_i neg_i scale_i wide_i out_i mul_i power_i mid_i
-    floor_by ceil_by min_ℤ max_ℤ equation_over slope_over term_slope term_over factor_i lowered equation_of
-    linear_equation unit_e tab
+unfolding box_of run_of step_of image_box image_of decide_of all_meet all_inside all_b meets_i inside_i d_of b_of
+    entry_b e_of dot_i unit_z sum_i carry add_i neg_i scale_i wide_i out_i mul_i power_i mid_i floor_by ceil_by min_ℤ
+    max_ℤ equation_over slope_over term_slope term_over factor_i lowered equation_of linear_equation unit_e tab
 answer = refl
 
 -- "[32768,32768] and [16384,16384]": the point (32768, 16384) over 1

@@ -84,7 +84,8 @@ no-numbers = refl
 
 module _ (key l : List ℕ) (m : ℕ) (h : m ≤ places_max) where
   some_number : (vs : List ℤ) → show_list vs ≡ body_of key l → (read_list (body_of key l)).ok ≡ true → 0 < length vs
-  some_number [] t e = absurd (false≢true (sym no-list ∙ ap (λ (b : List ℕ). (read_list b).ok) (sym no-numbers ∙ t) ∙ e))
+  some_number [] t e = absurd (false≢true (sym no-list ∙ ap (λ (b : List ℕ). (read_list b).ok) (sym no-numbers ∙ t)
+      ∙ e))
   some_number (v ∷ vs) t e = omega arith
 
   list-told : (read_list (body_of key l)).ok ≡ true

@@ -36,7 +36,8 @@ unfolding split
 words-split at l h = by (eqb at 0) (words-asked (operation_of (take (at - 1) l)) (count_by (drop at l)) (at - 1))
   where
     by : (t : Bool) → words_of (asked (operation_of (take (at - 1) l)) (count_by (drop at l)) (at - 1)) ≤ at - 1
-        → words_of (cond t Request.Bad (asked (operation_of (take (at - 1) l)) (count_by (drop at l)) (at - 1))) ≤ length l
+        → words_of (cond t Request.Bad (asked (operation_of (take (at - 1) l)) (count_by (drop at l)) (at - 1))) ≤
+        length l
     by true few = omega arith
     by false few = omega arith
 

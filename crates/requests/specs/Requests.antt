@@ -1,6 +1,7 @@
 -- The line of a request, without its LF: what is asked with its arguments, one space, and the length of the text that
 -- follows.
-use Rattle.std.specs.Prelude.{ℕ, zero, suc, ◌-◌, ◌≤◌, ◌≡◌, List, [], ◌∷◌, Bool, true, cond, length, get_or, take, drop, eqb}
+use Rattle.std.specs.Prelude.{ℕ, zero, suc, ◌-◌, ◌≤◌, ◌≡◌, List, [], ◌∷◌, Bool, true, cond, length, get_or, take}
+use Rattle.std.specs.Prelude.{drop, eqb}
 use Rattle.text.specs.Keys.{same_bytes}
 use Rattle.arguments.specs.Counts.{count_by}
 use Rattle.arguments.specs.Words.{space, before, behind}

@@ -137,7 +137,8 @@ checked-passed = trips.done-passed result_form_of result_shows Has Spelt laws ch
 pub read-write : (r : Result) → check_result r ≡ Status.Done
     → read_result (show_result r) ≡ record { status = Status.Done; result = live result_shows r }
 unfolding read_result
-read-write r e = ap result_answer (trips.read-write result_form_of result_shows Has Spelt laws check_result judged-status r e)
+read-write r e = ap result_answer (trips.read-write result_form_of result_shows Has Spelt laws check_result
+    judged-status r e)
 
 -- "Text to values to text gives the same bytes": a text is read without fault exactly where it is the bytes of a result
 -- that has none and is zero in its dead places

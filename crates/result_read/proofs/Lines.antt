@@ -35,7 +35,8 @@ module _ (t : List ℕ) (v : Result) (a : ℕ) (h : a ≤ length t) {m : ℕ} {s
       → Leads result_form_of t a ResultLine.Number v st ResultLine.Visit (with_number v r.count) r.next
   unfolding result_says
   number-leads e =
-      line-leads result_form_of t ResultLine.Number v a h refl number_of (λ x. leaves ResultLine.Visit (with_number v x)) refl
+      line-leads result_form_of t ResultLine.Number v a h refl number_of
+      (λ x. leaves ResultLine.Visit (with_number v x)) refl
       (count-tells _ _ e)
 
   pub visit-leads : {r : CountLine} → r ≡ count_at (said visit_of t a) (onward t a) → st ≡ on_line r.found m
@@ -43,7 +44,8 @@ module _ (t : List ℕ) (v : Result) (a : ℕ) (h : a ≤ length t) {m : ℕ} {s
       → Leads result_form_of t a ResultLine.Visit v st ResultLine.Verdict (with_visit v r.count) r.next
   unfolding result_says
   visit-leads e =
-      line-leads result_form_of t ResultLine.Visit v a h refl visit_of (λ x. leaves ResultLine.Verdict (with_visit v x)) refl
+      line-leads result_form_of t ResultLine.Visit v a h refl visit_of
+      (λ x. leaves ResultLine.Verdict (with_visit v x)) refl
       (count-tells _ _ e)
 
   pub verdict-leads : {r : VerdictLine} → r ≡ verdict_at (said verdict_of t a) (onward t a) → st ≡ on_line r.found m
@@ -92,7 +94,8 @@ low-few t a m {st} {r} e q good =
 pub all-lead : (t : List ℕ) {n : NamesAt} {r : ToldAt} {b : BoxAt}
     → Leads result_form_of t 0 ResultLine.Number no_result n.status ResultLine.Verdict (names_of n) n.next
     → is_bad n.status ≡ false → ToldFrom t n.next r → is_bad r.status ≡ false → BoxFrom t r.next b
-    → Leads result_form_of t 0 ResultLine.Number no_result b.status ResultLine.End (with_box (with_told (names_of n) r) b)
+    → Leads result_form_of t 0 ResultLine.Number no_result b.status ResultLine.End
+    (with_box (with_told (names_of n) r) b)
     b.next
 all-lead t names named told good boxed =
     leads-on _ _ names named (leads-on _ _ (told.leads _) good (boxed.leads _))

@@ -6,7 +6,8 @@ use Rattle.jobs.specs.declared.ResultLine.{ResultLine}
 use Rattle.jobs.specs.Zero.{no_result}
 use Rattle.line_read.specs.States.{Leads}
 use Rattle.result_form.specs.declared.ResultRead.{ResultRead}
-use Rattle.result_form.specs.ResultForm.{with_number, with_visit, with_verdict, with_steps, with_low, with_high, result_form_of}
+use Rattle.result_form.specs.ResultForm.{with_number, with_visit, with_verdict, with_steps, with_low, with_high}
+use Rattle.result_form.specs.ResultForm.{result_form_of}
 use Rattle.result_read.specs.declared.NamesAt.{NamesAt}
 use Rattle.result_read.specs.declared.ToldAt.{ToldAt}
 use Rattle.result_read.specs.declared.BoxAt.{BoxAt}

@@ -35,7 +35,8 @@ not_free last j r = go (is_bad j.status) (is_bad r.status) (is_visit last j.job 
 pub free-told : (last : ℕ) (s : List ℕ) → is_free (room_of last s).standing ≡ eqb (number_at s job_from) 0
 unfolding room_of
 free-told last s =
-    go (eqb (number_at s job_from) 0) (leb (number_at s reading_from) reading_most && leb (number_at s job_from) job_most)
+    go (eqb (number_at s job_from) 0) (leb (number_at s reading_from) reading_most && leb (number_at s job_from)
+    job_most)
   where
     go : (a b : Bool)
         → is_free (cond a free_room (cond b

@@ -68,7 +68,8 @@ pub room-visited : (last : ℕ) (s : List ℕ) → is_taken (room_of last s).sta
     → Visited last s (room_of last s).job (room_of last s).reading
 unfolding room_of
 room-visited last s e =
-    go (eqb (number_at s job_from) 0) (leb (number_at s reading_from) reading_most) (leb (number_at s job_from) job_most)
+    go (eqb (number_at s job_from) 0) (leb (number_at s reading_from) reading_most)
+    (leb (number_at s job_from) job_most)
     refl refl refl e
   where
     j : JobRead
@@ -83,7 +84,8 @@ room-visited last s e =
     go : (a b c : Bool) → eqb (number_at s job_from) 0 ≡ a → leb (number_at s reading_from) reading_most ≡ b
         → leb (number_at s job_from) job_most ≡ c
         → is_taken (cond a free_room (cond (b && c)
-        (held_by last (read_job (text_at s job_from)) (read_result (text_at s reading_from))) broken_room)).standing ≡ true
+        (held_by last (read_job (text_at s job_from)) (read_result (text_at s reading_from))) broken_room)).standing
+        ≡ true
         → Visited last s
         (cond a free_room (cond (b && c)
         (held_by last (read_job (text_at s job_from)) (read_result (text_at s reading_from))) broken_room)).job

@@ -12,7 +12,8 @@ ghost use Rattle.result_form.specs.ResultShows.{show_result};
 ghost use Rattle.cells.specs.Cells.{cell};
 ghost use Rattle.room_form.specs.Table.{rooms_max, job_most, reading_most, table_size, room_at};
 ghost use Rattle.room_form.specs.Calls.{clear_status, cleared, lowest_free, open_status, open_answer, next_visit};
-ghost use Rattle.room_form.specs.Calls.{with_visitor, opened, is_taken, holds, held_status, after_step, stepped, closed};
+ghost use Rattle.room_form.specs.Calls.{with_visitor, opened, is_taken, holds, held_status};
+ghost use Rattle.room_form.specs.Calls.{after_step, stepped, closed};
 
 use crate::table::{is_free, is_whole, room_at};
 use cells::{number_at, put_number, put_text, wipe};

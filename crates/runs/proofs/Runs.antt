@@ -80,7 +80,8 @@ module _ (n : ℕ) (q : ℕ → Equation) (C : ℕ → ℕ → ℤ) where
   by-step x done Z on_none on_unique on_stalled on_next = rw (step_is n q C x) (by (decided n x (K x)))
     where
       by : Decided n x (K x)
-          → Z (λ a. settle (decide_of n x (K x)).what (decide_of n x (K x)).sides (done + 1) (run_of n q C a (done + 1)))
+          → Z (λ a. settle (decide_of n x (K x)).what (decide_of n x (K x)).sides (done + 1)
+          (run_of n q C a (done + 1)))
       by (none e m) = rw e (on_none m)
       by (unique e s) = rw e (on_unique s)
       by (stalled e s) = rw e on_stalled

@@ -68,7 +68,8 @@ module _ (t key : List ℕ) (from : ℕ) (h : from ≤ length t) where
   no_body n = rw (no_key n)
 
   module _ (a : no_feed key ≡ true) (y : starts_with key (drop from t) ≡ true) where
-    line-ends : line_end t from - from < length (drop from t) → get_or (drop from t) (line_end t from - from) 0 ≡ line_feed
+    line-ends : line_end t from - from < length (drop from t)
+        → get_or (drop from t) (line_end t from - from) 0 ≡ line_feed
     line-ends l =
         let p = line-end t from h in
         let z : from + (line_end t from - from) ≡ line_end t from = omega (arith, p.after) in

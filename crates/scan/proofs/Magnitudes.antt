@@ -134,7 +134,8 @@ module _ (s : List ℕ) (a : ℕ) where
             rw (part-cons s a e (omega arith) y, digit-first (get_or s a 0) (part s (a + 1) e) (omega arith) q 0, z);
       }
 
-  pub run_more : (m i : ℕ) → Run s a m i → i < length s → i < a + digits_max → digit0 ≤ get_or s i 0 → get_or s i 0 ≤ digit9
+  pub run_more : (m i : ℕ) → Run s a m i → i < length s → i < a + digits_max → digit0 ≤ get_or s i 0
+      → get_or s i 0 ≤ digit9
       → Run s a (m * 10 + (get_or s i 0 - digit0)) (i + 1)
   run_more m i r h k p q =
       let w : i + 1 - a ≡ i - a + 1 = omega (arith, r.begun) in

@@ -24,7 +24,8 @@ minus-first : (b : ℕ) (bs : List ℕ) → b ≡ minus_sign → read_number (b 
 unfolding read_number
 minus-first b bs e = rw (ne_eqb (suc (length bs)) 0 (omega arith), eq-eqb b minus_sign e)
 
-plain-first : (b : ℕ) (bs : List ℕ) → (b ≡ minus_sign → ⊥) → read_number (b ∷ bs) ≡ without_minus (read_magnitude (b ∷ bs))
+plain-first : (b : ℕ) (bs : List ℕ) → (b ≡ minus_sign → ⊥) → read_number (b ∷ bs)
+    ≡ without_minus (read_magnitude (b ∷ bs))
 unfolding read_number
 plain-first b bs n = rw (ne_eqb (suc (length bs)) 0 (omega arith), ne_eqb b minus_sign n)
 

@@ -1,6 +1,7 @@
 -- A whole line at its place: "Lines end in one LF, the last too".
 -- Beside a line that is wrongly spelled every part of an answer is zero.
-use Rattle.std.specs.Prelude.{ℕ, ◌+◌, ◌≤◌, ◌≡◌, List, [], ◌∷◌, Bool, true, false, cond, length, take, replicate, eqb, ltb, ℤ, pos}
+use Rattle.std.specs.Prelude.{ℕ, ◌+◌, ◌≤◌, ◌≡◌, List, [], ◌∷◌, Bool, true, false, cond, length, take, replicate, eqb}
+use Rattle.std.specs.Prelude.{ltb, ℤ, pos}
 use Rattle.digits.specs.Bytes.{line_feed}
 use Rattle.digits.specs.Number.{read_number}
 use Rattle.digits.specs.declared.Number.{Number}

@@ -1,6 +1,7 @@
 -- The sentence of each slip: what stands there and what is expected.
 use Rattle.std.specs.Prelude.{ℕ, ◌≤◌, ◌≡◌, List, [], ◌++◌, cond, eqb, ℤ}
-use Rattle.sizes.specs.Sizes.{n_max, terms_max, text_max, steps_max, number_max, visit_max, end_max, entry_max, degree_max}
+use Rattle.sizes.specs.Sizes.{n_max, terms_max, text_max, steps_max, number_max, visit_max, end_max, entry_max}
+use Rattle.sizes.specs.Sizes.{degree_max}
 use Rattle.faults.specs.declared.Finding.{Finding}
 use Rattle.writing.specs.Wrote.{Wrote}
 use Rattle.slips.specs.declared.Key.{Key}
@@ -47,7 +48,8 @@ number_not field wrong form = field_words field ++ wrong_words wrong ++ expected
 
 abbrev pub count_not : ℕ → ℕ → ℕ → List ℕ
 count_not n expected found =
-    counted (ascii "n=") n (ascii ": ") ++ some_words expected (ascii " number expected, ") (ascii " numbers expected, ")
+    counted (ascii "n=") n (ascii ": ") ++ some_words expected (ascii " number expected, ")
+    (ascii " numbers expected, ")
     ++ counted [] found (ascii " found")
 
 abbrev pub exponents_not : ℕ → ℕ → ℕ → List ℕ

@@ -194,7 +194,8 @@ module _ (c : ℤ) (e : ℕ → ℕ) (X : ℕ → Interval) where
     live_at {w} l p = p ∙ ap (λ (k : ℕ). term_over k c e X) (stop-live n at count w l)
 
     pub live_more : (w : ℕ) → w < count → {m : ℕ} {a r : Interval} → r ≡ factor_i m a (X (get_or at w 0))
-        → m ≡ e (get_or at w 0) → a ≡ term_over (stop n at count w) c e X → r ≡ term_over (stop n at count (w + 1)) c e X
+        → m ≡ e (get_or at w 0) → a ≡ term_over (stop n at count w) c e X
+        → r ≡ term_over (stop n at count (w + 1)) c e X
     live_more w l p q h =
         rw (add-one w)
         (term-more c e X (get_or at w 0) p q (live_at l h) ∙ skip (suc w) l)

@@ -36,5 +36,6 @@ module _ (n : ℕ) {X Y : ℕ → Interval} (same : (k : ℕ) → k < n → X k 
   pub equation-cong : (q : Equation) → equation_over n q X ≡ equation_over n q Y
   unfolding equation_over
   equation-cong q =
-      sum_i-cong q.count (λ t. term_over n (coef_of q t) (exps_of q t) X) (λ t. term_over n (coef_of q t) (exps_of q t) Y)
+      sum_i-cong q.count (λ t. term_over n (coef_of q t) (exps_of q t) X)
+      (λ t. term_over n (coef_of q t) (exps_of q t) Y)
       (λ t _. term-cong (coef_of q t) (exps_of q t))

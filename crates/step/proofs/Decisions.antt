@@ -48,7 +48,8 @@ module _ (n : ℕ) (x k : List Interval) where
   unfolding decide_of
   decided = by (all_meet n x k) refl (all_inside n x k) refl (cut_same n x k) refl
     where
-      by : (m : Bool) → all_meet n x k ≡ m → (s : Bool) → all_inside n x k ≡ s → (t : Bool) → cut_same n x k ≡ t → Decided
+      by : (m : Bool) → all_meet n x k ≡ m → (s : Bool) → all_inside n x k ≡ s → (t : Bool) → cut_same n x k ≡ t
+          → Decided
       by false m s i t e = none (rw m) m
       by true m true i t e = unique (rw (m, i)) (inside-strictly i)
       by true m false i true e = stalled (rw (m, i, e)) e

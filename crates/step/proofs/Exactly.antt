@@ -141,7 +141,8 @@ module _ (n : ℕ) (x k : List Interval) where
           (apart-meets (X h.place) (K h.place) h.apart)) refl)
 
   -- an image is an interval, its ends in order
-  pub unique-exactly : ((i : ℕ) → i < n → (K i).lo ≤ℤ (K i).hi) → ((decide_of n x k).what ≡ Move.Unique) ↔ Strictly n X K
+  pub unique-exactly : ((i : ℕ) → i < n → (K i).lo ≤ℤ (K i).hi)
+      → ((decide_of n x k).what ≡ Move.Unique) ↔ Strictly n X K
   unique-exactly order = (only (decided n x k), where-strictly)
     where
       only : Decided n x k → (decide_of n x k).what ≡ Move.Unique → Strictly n X K

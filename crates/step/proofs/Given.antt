@@ -54,7 +54,8 @@ ends_at n room x k l =
     ap₂ interval (get_or-tab (pos 0) n_max n (λ k. (side_at x k).lo) (pos 0) k l room)
     (get_or-tab (pos 0) n_max n (λ k. (side_at x k).hi) (pos 0) k l room)
 
-pub box-back : (n : ℕ) → n ≤ n_max → (f : ℕ → Interval) {x : List Interval} → x ≡ vector_of n f → box_of n (ends_of n x) ≡ x
+pub box-back : (n : ℕ) → n ≤ n_max → (f : ℕ → Interval) {x : List Interval} → x ≡ vector_of n f
+    → box_of n (ends_of n x) ≡ x
 unfolding box_of
 box-back n room f {x} e =
     tab-cong zero_i n_max n _ _ (λ k l. ends_at n room x k l ∙ side-made n room f e k l) ∙ sym e

@@ -44,7 +44,8 @@ middle-in n X p order = record {
   };
 }
 
-middle-point : (n : ℕ) (X : ℕ → Interval) {d : ℤ} → pos 0 <ℤ d → InBox n (middle_num X d) d (λ j. point_i (middle_of X j))
+middle-point : (n : ℕ) (X : ℕ → Interval) {d : ℤ} → pos 0 <ℤ d
+    → InBox n (middle_num X d) d (λ j. point_i (middle_of X j))
 unfolding middle_num
 middle-point n X p = record { den = p; each = λ k l. hold-const (middle_of X k) p }
 
@@ -52,22 +53,26 @@ module _ (n : ℕ) (q : ℕ → Equation) (C : ℕ → ℕ → ℤ) (X : ℕ →
     (degrees : (k : ℕ) → k < n → DegreesIn n (q k)) where
   -- D = C F holds C f(m), the middle m over any denominator
   pub hold-middle : {d : ℤ} → pos 0 <ℤ d → (i : ℕ)
-      → In (sum_to n (λ k. C i k *ℤ equation_num n (q k) (middle_num X d) d)) (newton_den d) (d_of n C (value_of n q C X) i)
+      → In (sum_to n (λ k. C i k *ℤ equation_num n (q k) (middle_num X d) d)) (newton_den d)
+      (d_of n C (value_of n q C X) i)
   hold-middle {d} p i =
       rw (den-values d) at
-      (hold-d n C (value_of n q C X) i (λ k. equation_num n (q k) (middle_num X d) d) (power_pos degree_max (units-pos p))
+      (hold-d n C (value_of n q C X) i (λ k. equation_num n (q k) (middle_num X d) d)
+      (power_pos degree_max (units-pos p))
       (λ k l. hold-equation (middle-point n X p) (q k) (degrees k l)))
 
   -- B = I - C S holds I - C S with difference quotients
   pub hold-quotient : {P R : ℕ → ℤ} {d : ℤ} → InBox n P d X → InBox n R d X → (i j : ℕ) → j < n
-      → In (quotient_num n q C P R d i j) (power (units_of d) (degree_max - 1) *ℤ pos mark) (b_of n C (slope_of n q C X) i j)
+      → In (quotient_num n q C P R d i j) (power (units_of d) (degree_max - 1) *ℤ pos mark)
+      (b_of n C (slope_of n q C X) i j)
   unfolding quotient_num
   hold-quotient {P} {R} {d} h g i j l =
       hold-b n C (slope_of n q C X) i j (λ k. slope_num n (q k) P R d j) (power_pos (degree_max - 1) (units-pos h.den))
       (λ k m. slopes-hold n (q k) P R d (degrees k m) h g j l)
 
   -- the image, place by place: m, D and E hold the parts of N(p) = m - C f(m) + (I - C S) (p - m)
-  pub image_holds : {P : ℕ → ℤ} {d : ℤ} → InBox n P d X → InBox n (newton_num n q C P d) (newton_den d) (image_of n q C X)
+  pub image_holds : {P : ℕ → ℤ} {d : ℤ} → InBox n P d X → InBox n (newton_num n q C P d) (newton_den d)
+      (image_of n q C X)
   image_holds {P} {d} h = record { den = den_pos h.den; each = place }
     where
       m : ℕ → ℤ
@@ -97,7 +102,8 @@ module _ (n : ℕ) (q : ℕ → Equation) (C : ℕ → ℕ → ℤ) (X : ℕ →
           third : In BZ (newton_den d) (e_of n (b_of n C (slope_of n q C X)) (offset_of X) i)
           third = unfold middle_num in
               (rw turn at
-              (hold-e n (b_of n C (slope_of n q C X)) (offset_of X) i (λ j. quotient_num n q C P m d i j) (λ j. P j -ℤ m j)
+              (hold-e n (b_of n C (slope_of n q C X)) (offset_of X) i (λ j. quotient_num n q C P m d i j)
+              (λ j. P j -ℤ m j)
               (pos-mul (power_pos (degree_max - 1) (units-pos h.den)) (omega zorder)) h.den
               (λ j u. hold-quotient h inside i j u)
               (λ j u. hold-add (h.each j u) (hold-neg (hold-const (middle_of X j) h.den)))))

@@ -61,7 +61,8 @@ unit-sum (suc n) i f h = by (ℕ_discrete i n) (unit-sum n i f)
 module _ (n : ℕ) (q : ℕ → Equation) (C : ℕ → ℕ → ℤ) (P R : ℕ → ℤ) (d : ℤ) where
   -- I - C S with the difference quotients between P and R in place of S
   unfoldable pub quotient_num : ℕ → ℕ → ℤ
-  quotient_num i j = unit_z i j *ℤ power (units_of d) (degree_max - 1) -ℤ sum_to n (λ k. C i k *ℤ slope_num n (q k) P R d j)
+  quotient_num i j = unit_z i j *ℤ power (units_of d) (degree_max - 1) -ℤ sum_to n
+      (λ k. C i k *ℤ slope_num n (q k) P R d j)
 
   pub newton-diff : (i : ℕ)
       → i < n → newton_num n q C P d i -ℤ newton_num n q C R d i ≡ sum_to n (λ j. quotient_num i j *ℤ (P j -ℤ R j))

@@ -30,7 +30,8 @@ module _ (x k : List Interval) where
   pub pass-more : {i : ℕ} {c : List Interval} {inside same more-inside more_same : Bool} {side : Interval}
       → i < n_max → Passed i c inside same
       → meets_i (side_at x i) (side_at k i) ≡ true → side ≡ cut_i (side_at x i) (side_at k i)
-      → more-inside ≡ both inside (inside_i (side_at x i) (side_at k i)) → more_same ≡ both same (same_i side (side_at x i))
+      → more-inside ≡ both inside (inside_i (side_at x i) (side_at k i))
+      → more_same ≡ both same (same_i side (side_at x i))
       → Passed (i + 1) (set c i side) more-inside more_same
   unfolding all_meet all_inside cut_same cut_box all_b
   pass-more {i} l p m e s t = record {

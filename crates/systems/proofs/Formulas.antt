@@ -51,7 +51,8 @@ module _ (n : ℕ) (room : n ≤ n_max) (a : ℕ → ℤ) (b : ℤ) (e : ℕ →
 
   built-term : (t : ℕ) → t < n + 1 → get_or q.terms t no_term ≡ record { coef = coefs t; exps = tab n_max n 0 (e t) }
   built-term t l =
-      get_or-tab _ terms_max (n + 1) (λ t. record { coef = coefs t; exps = tab n_max n 0 (e t) }) no_term t l (omega arith)
+      get_or-tab _ terms_max (n + 1) (λ t. record { coef = coefs t; exps = tab n_max n 0 (e t) }) no_term t l
+      (omega arith)
 
   pub built-coef : (t : ℕ) → t < n + 1 → coef_of q t ≡ coefs t
   built-coef t l = ap (λ (r : Term). r.coef) (built-term t l)
@@ -124,7 +125,8 @@ module _ (n p : ℕ) (room : n ≤ n_max) (pin : p < n) (a : ℕ → ℤ) (i : �
       by (no e) = rw (ne_eqb t p e) (mono-unit h)
 
   pub eigen-exact : Exact n (eigen_equation n p a i) 2
-      (λ P d. sum_to n (λ j. a j *ℤ (coordinate p P d j *ℤ units_of d)) +ℤ neg_ℤ (pos mark) *ℤ (P p *ℤ coordinate p P d i))
+      (λ P d. sum_to n (λ j. a j *ℤ (coordinate p P d j *ℤ units_of d)) +ℤ neg_ℤ (pos mark) *ℤ
+      (P p *ℤ coordinate p P d i))
   unfolding eigen_equation
   eigen-exact =
       built n room a (pos mark) (eigen_e n p i) (λ t P d. coordinate p P d t *ℤ units_of d)
@@ -140,7 +142,8 @@ module _ (n p : ℕ) (room : n ≤ n_max) (pin : p < n) (a : ℕ → ℤ) (i : �
   unfolding eigen_num
   eigen-is P d =
       eigen-exact.num P d
-      ∙ ap (λ (s : ℤ). (s +ℤ neg_ℤ (pos mark) *ℤ (P p *ℤ coordinate p P d i)) *ℤ power (units_of d) (degree_max - 2)) sums
+      ∙ ap (λ (s : ℤ). (s +ℤ neg_ℤ (pos mark) *ℤ (P p *ℤ coordinate p P d i)) *ℤ power (units_of d) (degree_max - 2))
+      sums
       ∙ ring ((sum_to n (λ j. a j *ℤ coordinate p P d j) *ℤ units_of d) ∷ pos mark ∷ (P p *ℤ coordinate p P d i)
       ∷ power (units_of d) (degree_max - 2) ∷ [])
       (λ s m x w. (s ⊕ neg m ⊗ x) ⊗ w) (λ s m x w. (s ⊖ m ⊗ x) ⊗ w) refl

@@ -152,7 +152,8 @@ exact {n} q {k} z cubic m = record {
         rest = power (units_of d) (degree_max - k)
 
         one : (t : ℕ)
-            → t < q.count → term_num n (coef_of q t) (exps_of q t) P *ℤ raised n q d t ≡ (coef_of q t *ℤ z t P d) *ℤ rest
+            → t < q.count → term_num n (coef_of q t) (exps_of q t) P *ℤ raised n q d t
+            ≡ (coef_of q t *ℤ z t P d) *ℤ rest
         one t l =
             let g = degree n (exps_of q t) in
             let split : degree_max - g ≡ (k - g) + (degree_max - k) = omega (arith, (m t l).deg) in

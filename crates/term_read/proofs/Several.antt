@@ -176,7 +176,8 @@ module _ {t : List ℕ} {from n : ℕ} {terms : List Term} {far : Bool} {count a
       not-whole e
       (λ l.
       no-mark (term_steps n) inv.left (term-field h)
-      (or_snd (is_at t next comma) (is_at t next line_feed) z) (or_fst (is_at t next comma) (is_at t next line_feed) z) l)
+      (or_snd (is_at t next comma) (is_at t next line_feed) z)
+      (or_fst (is_at t next comma) (is_at t next line_feed) z) l)
 
   module _ (some : next ≡ a → ⊥) (mark : is_mark t next ≡ true) {new : List Term} (put : new ≡ set terms count x) where
     left-on : (b : Bool) → is_at t next line_feed ≡ b

@@ -112,7 +112,8 @@ module _ (s : List ℕ) (a n : ℕ) (v : ℤ) (c : ℕ) (num : OnlyNumber s a v 
       digits m z h w false t = rw t
 
   pub no-term : a ≤ length s
-      → ((e : ℕ) → e ≤ length s → a < c → c + 1 + n ≡ e → get_or s c 0 ≡ colon → all_digits (part s (c + 1) e) ≡ true → ⊥)
+      → ((e : ℕ) → e ≤ length s → a < c → c + 1 + n ≡ e → get_or s c 0 ≡ colon → all_digits (part s (c + 1) e) ≡ true
+      → ⊥)
       → OnlyTerm s a n zero_term a
   no-term l o =
       record {

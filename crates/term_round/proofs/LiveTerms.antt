@@ -58,7 +58,8 @@ module _ (n : ℕ) (few : n ≤ n_max) where
     unfolding in_order
     order-test zero l = refl
     order-test (suc k) l =
-        rw (term-live k (omega arith), term-live (suc k) l) (falls-test (term_at q k) (term_at q (suc k)) n (omega arith))
+        rw (term-live k (omega arith), term-live (suc k) l) (falls-test (term_at q k) (term_at q (suc k)) n
+        (omega arith))
 
     place-test : (k : ℕ) → k < q.count → good_place (live_equation n q) n k ≡ good_place q n k
     unfolding good_place

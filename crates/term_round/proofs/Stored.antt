@@ -49,7 +49,8 @@ store-all ps (t ∷ ts) (z ∷ zs) h =
 
 -- the terms, and zeros after them
 pub fold-stored : (ts : List Term) → length ts ≤ terms_max
-    → (foldl put_term no_terms ts).equation ≡ stored (length ts) (ts ++ drop (length ts) (replicate terms_max zero_term))
+    → (foldl put_term no_terms ts).equation ≡ stored (length ts)
+    (ts ++ drop (length ts) (replicate terms_max zero_term))
 unfolding no_terms
 fold-stored ts h =
     fold-equation ts no_terms

@@ -56,7 +56,13 @@ module _ {S : Type 0} (step : S → List ℕ → S) (sep : ℕ) where
     pub kept : (get_or s i 0 ≡ sep → ⊥)
         → feeds step sep (at_part st s a i) (drop i s) ≡ feeds step sep (at_part st s a (i + 1)) (drop (i + 1) s)
     kept n =
-        rw (part-more s a i p q, drop-cons s i 0 q, add-one i, feeds-cons, feed-held (at_part st s a i) (get_or s i 0) n)
+        rw (
+          part-more s a i p q,
+          drop-cons s i 0 q,
+          add-one i,
+          feeds-cons,
+          feed-held (at_part st s a i) (get_or s i 0) n,
+        )
 
   -- up to its end a piece is held
   held-from : (s : List ℕ) (st : S) (a : ℕ) (d i : ℕ) → a ≤ i → i + d ≤ length s

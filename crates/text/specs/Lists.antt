@@ -1,5 +1,6 @@
 -- "Lists are joined by commas."
-use Rattle.std.specs.Prelude.{ℕ, ◌+◌, ◌*◌, ◌^◌, ◌<◌, List, [], ◌∷◌, ◌++◌, map, true, false, set, replicate, ℤ, pos, nat_abs}
+use Rattle.std.specs.Prelude.{ℕ, ◌+◌, ◌*◌, ◌^◌, ◌<◌, List, [], ◌∷◌, ◌++◌, map, true, false, set, replicate, ℤ, pos}
+use Rattle.std.specs.Prelude.{nat_abs}
 use Rattle.sizes.specs.Sizes.{n_max}
 use Rattle.digits.specs.Bytes.{comma}
 use Rattle.digits.specs.Number.{digits_max, read_number}

@@ -15,7 +15,8 @@ overflow_cast-depth c =
 pub list_job-requires : goal.list_job-requires
 list_job-requires c =
     let f = c.ranges.depth in
-    let done = rw (to_z-of_z f) at (sym c.halve_status-status.ensures ∙ c.in-Done.is) in record { j_value = job-fine _ _ _ done; depth_in_bounds = rw (to_z-of_z f) (enough-room _ _ _ done) }
+    let done = rw (to_z-of_z f) at (sym c.halve_status-status.ensures ∙ c.in-Done.is) in
+    record { j_value = job-fine _ _ _ done; depth_in_bounds = rw (to_z-of_z f) (enough-room _ _ _ done) }
 
 pub shape_of-list : goal.shape_of-list
 shape_of-list c = lists_length _ c.list_job.ensures

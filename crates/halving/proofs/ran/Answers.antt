@@ -6,7 +6,11 @@ use Rattle.halving.specs.Parts.{ran_as}
 use Rattle.halving.proofs.ran.Goals as goal
 
 pub part_of-part-requires : goal.part_of-part-requires
-part_of-part-requires c = record { box_in = rw c.run_system-o.ensures (step_left c.args.x c.requires.step_in c.args.steps); le_n = c.requires.le_n }
+part_of-part-requires c = record {
+  box_in = rw c.run_system-o.ensures
+      (step_left c.args.x c.requires.step_in c.args.steps);
+  le_n = c.requires.le_n;
+}
 
 pub returns : goal.returns
 returns c =

@@ -26,7 +26,10 @@ line_taken-read-requires c =
     let held = feed-ends c.loop-i.bytes c.loop-i.held (get_or c.args.part.now c.loop-i.i 0)
     (rw c.loop-i.invariant.0
     (omega (arith, c.if-size-ge-TEXT.false, c.loop-i.invariant.1.fit.come)))
-    c.if-b-eq10.true in record { line_in_bounds = (held, fits_read _ c.loop-i.invariant.1.fit.read); fault_value = c.if-read-eq0.true }
+    c.if-b-eq10.true in record {
+      line_in_bounds = (held, fits_read _ c.loop-i.invariant.1.fit.read);
+      fault_value = c.if-read-eq0.true;
+    }
 
 pub loop-i-preserved-then-read-eq0 : goal.loop-i-preserved-then-read-eq0
 loop-i-preserved-then-read-eq0 c =

@@ -10,7 +10,12 @@ use Rattle.job_parts.proofs.take_bytes.Given as goal
 abbrev pub invariant-loop-i : goal.invariant-loop-i
 invariant-loop-i l =
     (length l.bytes ≡ text_max)
-    × Going l.part (bytes_taken (record { size = l.initial.size; held = l.initial.held; read = l.initial.read; bytes = l.initial.bytes }) l.part)
+    × Going l.part (bytes_taken (record {
+      size = l.initial.size;
+      held = l.initial.held;
+      read = l.initial.read;
+      bytes = l.initial.bytes;
+    }) l.part)
     (record { size = l.size; held = l.held; read = l.read; bytes = l.bytes }) l.i
 
 abbrev pub decreases-loop-i : goal.decreases-loop-i

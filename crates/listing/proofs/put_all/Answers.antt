@@ -12,7 +12,11 @@ pub loop-i-init : goal.loop-i-init
 loop-i-init c = record { live = omega arith; wrote = boxes-none _ _ _ _; short = omega arith }
 
 pub put_box-at-requires : goal.put_box-at-requires
-put_box-at-requires c = record { entry_in = c.requires.each c.loop-i.i c.loop-i-test.true; at_le_last_max = omega (arith, c.loop-i.invariant.short, c.loop-i.invariant.live, c.put_head-at.ensures.short, c.requires.few) }
+put_box-at-requires c = record {
+  entry_in = c.requires.each c.loop-i.i c.loop-i-test.true;
+  at_le_last_max =
+      omega (arith, c.loop-i.invariant.short, c.loop-i.invariant.live, c.put_head-at.ensures.short, c.requires.few);
+}
 
 pub loop-i-preserved : goal.loop-i-preserved
 loop-i-preserved c =

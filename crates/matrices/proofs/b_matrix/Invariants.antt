@@ -24,7 +24,8 @@ decreases-loop-j l = l.n - l.j
 
 abbrev pub invariant-loop-i : goal.invariant-loop-i
 invariant-loop-i l =
-    (l.i ≤ l.n) × (l.b ≡ tab n_max l.i (replicate n_max zero_i) (λ m. vector_of l.n (b_of l.n (entry_at l.c) (cell_at l.s) m)))
+    (l.i ≤ l.n) × (l.b ≡ tab n_max l.i (replicate n_max zero_i)
+    (λ m. vector_of l.n (b_of l.n (entry_at l.c) (cell_at l.s) m)))
 
 abbrev pub decreases-loop-i : goal.decreases-loop-i
 decreases-loop-i l = l.n - l.i

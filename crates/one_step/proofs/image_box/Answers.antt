@@ -16,7 +16,11 @@ bounds-eqs-i c = let p = c.requires.box.places in omega arith
 
 pub equation_over-o-requires : goal.equation_over-o-requires
 equation_over-o-requires c =
-    let h = c.requires in record { box_in = m-in h c.middles-m.ensures; box_in_2 = h.box; equation_in = h.system.each c.loop-i.i c.loop-i-test.true }
+    let h = c.requires in record {
+      box_in = m-in h c.middles-m.ensures;
+      box_in_2 = h.box;
+      equation_in = h.system.each c.loop-i.i c.loop-i-test.true;
+    }
 
 pub offset_bounds-f-i : goal.offset_bounds-f-i
 offset_bounds-f-i c = omega (arith, c.requires.box.places)

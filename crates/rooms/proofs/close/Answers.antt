@@ -9,7 +9,8 @@ use Rattle.rooms.proofs.close.Goals as goal
 pub returns-then-is_bad : goal.returns-then-is_bad
 unfolding closed
 returns-then-is_bad c =
-    let bad = bad-told c.held_status-status.ensures c.is_bad.ensures c.if-is_bad.true in record { answer = c.held_status-status.ensures; table = rw bad refl }
+    let bad = bad-told c.held_status-status.ensures c.is_bad.ensures c.if-is_bad.true in
+    record { answer = c.held_status-status.ensures; table = rw bad refl }
 
 pub overflow_mul-slot : goal.overflow_mul-slot
 overflow_mul-slot c =
@@ -32,4 +33,5 @@ wipe-requires c =
 pub returns : goal.returns
 unfolding closed
 returns c =
-    let good = bad-told c.held_status-status.ensures c.is_bad.ensures c.if-is_bad.false in record { answer = c.held_status-status.ensures; table = rw good c.wipe.ensures.text }
+    let good = bad-told c.held_status-status.ensures c.is_bad.ensures c.if-is_bad.false in
+    record { answer = c.held_status-status.ensures; table = rw good c.wipe.ensures.text }

@@ -24,7 +24,9 @@ returns-then-is_bad c =
     let whole = sym c.is_whole.ensures ∙ c.if-not-is_whole.false in
     let status = ap (λ (x : JobRead). x.status) c.read_job-read.ensures in
     let bad = ap is_bad (sym status) ∙ sym c.is_bad.ensures ∙ c.if-is_bad.true in
-    let both = not_opened args.table.now args.text.now (no-job _ _ whole bad) bad (c.not_opened-then-is_bad.ensures.0 ∙ status, c.not_opened-then-is_bad.ensures.1) in record { answer = both.0; table = both.1 }
+    let both = not_opened args.table.now args.text.now (no-job _ _ whole bad) bad
+    (c.not_opened-then-is_bad.ensures.0 ∙ status, c.not_opened-then-is_bad.ensures.1) in
+    record { answer = both.0; table = both.1 }
 
 pub lowest_free-slot-requires : goal.lowest_free-slot-requires
 lowest_free-slot-requires c =
@@ -54,7 +56,8 @@ returns-then-last-ge-VISIT c =
     ∙ c.if-is_bad.false in
     let both = not_opened args.table.now args.text.now
     (no-visit _ _ whole right (rw c.lowest_free-slot.ensures at c.if-slot-ge-ROOMS.false)
-    (rw c.number_at-last.ensures at c.if-last-ge-VISIT.true)) refl c.not_opened-then-last-ge-VISIT.ensures in record { answer = both.0; table = both.1 }
+    (rw c.number_at-last.ensures at c.if-last-ge-VISIT.true)) refl c.not_opened-then-last-ge-VISIT.ensures in
+    record { answer = both.0; table = both.1 }
 
 pub first_reading-r-requires : goal.first_reading-r-requires
 first_reading-r-requires c =

@@ -12,7 +12,11 @@ use Rattle.rooms.proofs.step.Goals as goal
 pub returns-then-is_bad : goal.returns-then-is_bad
 returns-then-is_bad c =
     let args = c.args in
-    let bad = bad-told c.held_status-status.ensures c.is_bad.ensures c.if-is_bad.true in record { answer = all-refused _ _ bad c.held_status-status.ensures c.refused.ensures; table = step-refused args.table.now args.slot args.visit _ bad }
+    let bad = bad-told c.held_status-status.ensures c.is_bad.ensures c.if-is_bad.true in
+    record {
+      answer = all-refused _ _ bad c.held_status-status.ensures c.refused.ensures;
+      table = step-refused args.table.now args.slot args.visit _ bad;
+    }
 
 pub room_at-room-requires : goal.room_at-room-requires
 room_at-room-requires c =
@@ -39,7 +43,11 @@ returns-then-is_bad-2 c =
     let args = c.args in
     let good = bad-told c.held_status-status.ensures c.is_bad.ensures c.if-is_bad.false in
     let next = c.next_reading-q.ensures in
-    let w = rw (next, c.room_at-room.ensures) at c.write_ready-w.ensures in record { answer = told args.table.now args.slot args.visit good w c.is_bad-2.ensures; table = step-short args.table.now args.slot args.visit good w c.is_bad-2.ensures c.if-is_bad-2.true }
+    let w = rw (next, c.room_at-room.ensures) at c.write_ready-w.ensures in
+    record {
+      answer = told args.table.now args.slot args.visit good w c.is_bad-2.ensures;
+      table = step-short args.table.now args.slot args.visit good w c.is_bad-2.ensures c.if-is_bad-2.true;
+    }
 
 pub returns-then-is_finished : goal.returns-then-is_finished
 returns-then-is_finished c =

@@ -9,7 +9,10 @@ pub box_of-x-requires : goal.box_of-x-requires
 box_of-x-requires c = (check_done c.args.j c.requires).few
 
 pub run_from-o-requires : goal.run_from-o-requires
-run_from-o-requires c = record { j_value = c.requires; box_in = rw c.box_of-x.ensures (start-in (check_done c.args.j c.requires)) }
+run_from-o-requires c = record {
+  j_value = c.requires;
+  box_in = rw c.box_of-x.ensures (start-in (check_done c.args.j c.requires));
+}
 
 pub result_of-requires : goal.result_of-requires
 result_of-requires c = (check_done c.args.j c.requires).few

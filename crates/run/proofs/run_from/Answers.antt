@@ -12,7 +12,11 @@ pub matrix-c-requires : goal.matrix-c-requires
 matrix-c-requires c = (check_done c.args.j c.requires.j_value).few
 
 pub run_system-requires : goal.run_system-requires
-run_system-requires c = record { step_in = step_in c.args.j c.requires.j_value c.equations-eqs.ensures c.matrix-c.ensures c.args.x c.requires.box_in; le_n = (check_done c.args.j c.requires.j_value).some }
+run_system-requires c = record {
+  step_in = step_in c.args.j c.requires.j_value c.equations-eqs.ensures
+      c.matrix-c.ensures c.args.x c.requires.box_in;
+  le_n = (check_done c.args.j c.requires.j_value).some;
+}
 
 pub returns : goal.returns
 returns c =

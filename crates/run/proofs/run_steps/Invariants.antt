@@ -19,7 +19,8 @@ abbrev pub invariant-loop-done : goal.invariant-loop-done
 invariant-loop-done l =
     let q = equation_at l.eqs in
     ((l.done ≤ l.allowance) × Room l.n l.f l.s) × (StepIn l.n q (entry_at l.c) (side_at l.x)
-    × (run_of l.n q (entry_at l.c) (l.allowance - l.done) l.done l.x ≡ run_of l.n q (entry_at l.c) l.allowance 0 l.initial.x))
+    × (run_of l.n q (entry_at l.c) (l.allowance - l.done) l.done l.x
+    ≡ run_of l.n q (entry_at l.c) l.allowance 0 l.initial.x))
 
 abbrev pub decreases-loop-done : goal.decreases-loop-done
 decreases-loop-done l = l.allowance - l.done

@@ -69,7 +69,8 @@ pub loop-u-init : goal.loop-u-init
 loop-u-init c =
     let a = c.args in (
       omega arith,
-      live-row-none a.n a.q (side_at a.x) c.loop-i.i _ _ (alive c.loop-k.invariant.0 c.loop-k-test.false c.loop-k.invariant.1.1) c.loop-i.invariant.1.1,
+      live-row-none a.n a.q (side_at a.x) c.loop-i.i _ _ (alive c.loop-k.invariant.0 c.loop-k-test.false
+          c.loop-k.invariant.1.1) c.loop-i.invariant.1.1,
     )
 
 pub loop-w-init : goal.loop-w-init
@@ -77,7 +78,8 @@ loop-w-init c =
     let a = c.args in
     let e = exps_of a.q c.loop-i.i in (
       omega arith,
-      c.start-a.ensures ∙ live-none _ _ (side_at a.x) a.n e _ _ (alive c.loop-k.invariant.0 c.loop-k-test.false c.loop-k.invariant.1.1) (lowered_none _ e),
+      c.start-a.ensures ∙ live-none _ _ (side_at a.x) a.n e _ _
+          (alive c.loop-k.invariant.0 c.loop-k-test.false c.loop-k.invariant.1.1) (lowered_none _ e),
     )
 
 pub less-requires : goal.less-requires
@@ -108,7 +110,8 @@ scaled-requires c =
     let l = alive c.loop-k.invariant.0 c.loop-k-test.false c.loop-k.invariant.1.1 in
     let u = c.loop-u.u in
     let term = c.requires.equation_in.each c.loop-i.i c.loop-i-test.true in
-    rw (made c.args.q (side_at c.args.x) c.loop-i.i (get_or c.loop-k.live c.loop-u.u 0) l c.loop-w-test.false c.loop-w.invariant.1)
+    rw (made c.args.q (side_at c.args.x) c.loop-i.i (get_or c.loop-k.live c.loop-u.u 0) l c.loop-w-test.false
+    c.loop-w.invariant.1)
     (slope-fits c.requires.box_in_2 term _ (l.inside u c.loop-u-test.true)
     (pos_of_ne-zero (l.stands u c.loop-u-test.true)))
 
@@ -120,7 +123,8 @@ add-requires c =
     let in-n = l.inside u c.loop-u-test.true in
     let row = live-row-at a.n a.q (side_at a.x) c.loop-i.i _ _ l u c.loop-u-test.true
     c.loop-u.invariant.1 in
-    let part = c.scaled.ensures ∙ ap (scale_i _) (made c.args.q (side_at c.args.x) c.loop-i.i (get_or c.loop-k.live c.loop-u.u 0) l c.loop-w-test.false c.loop-w.invariant.1)
+    let part = c.scaled.ensures ∙ ap (scale_i _) (made c.args.q (side_at c.args.x) c.loop-i.i
+    (get_or c.loop-k.live c.loop-u.u 0) l c.loop-w-test.false c.loop-w.invariant.1)
     ∙ sym (slope-some _ _ _ _ _ (l.stands u c.loop-u-test.true)) in
     rw (row_read _ _ _ _ in-n row c.requires.box_in_2.places, part)
     (slope-sum-fits c.requires.box_in_2 c.requires.equation_in _ in-n c.loop-i.i c.loop-i-test.true)
@@ -133,7 +137,8 @@ loop-u-preserved c =
     let in-n = l.inside u c.loop-u-test.true in
     let row = live-row-at a.n a.q (side_at a.x) c.loop-i.i _ _ l u c.loop-u-test.true
     c.loop-u.invariant.1 in
-    let part = c.scaled.ensures ∙ ap (scale_i _) (made c.args.q (side_at c.args.x) c.loop-i.i (get_or c.loop-k.live c.loop-u.u 0) l c.loop-w-test.false c.loop-w.invariant.1)
+    let part = c.scaled.ensures ∙ ap (scale_i _) (made c.args.q (side_at c.args.x) c.loop-i.i
+    (get_or c.loop-k.live c.loop-u.u 0) l c.loop-w-test.false c.loop-w.invariant.1)
     ∙ sym (slope-some _ _ _ _ _ (l.stands u c.loop-u-test.true)) in
     let sum = sum_i-more _ _ c.add.ensures (row_read _ _ _ _ in-n row c.requires.box_in_2.places) part in (
       omega arith,
@@ -149,7 +154,8 @@ loop-i-preserved c =
       omega arith,
       (
         sum_i-more _ _ c.add-v.ensures c.loop-i.invariant.1.0 term,
-        live-row-done a.n a.q (side_at a.x) c.loop-i.i _ _ (alive c.loop-k.invariant.0 c.loop-k-test.false c.loop-k.invariant.1.1) c.loop-u-test.false
+        live-row-done a.n a.q (side_at a.x) c.loop-i.i _ _ (alive c.loop-k.invariant.0 c.loop-k-test.false
+            c.loop-k.invariant.1.1) c.loop-u-test.false
             c.loop-u.invariant.1,
       ),
     )
@@ -189,37 +195,93 @@ pub overflow_add-some : goal.overflow_add-some
 overflow_add-some c = omega (arith, c.loop-k.invariant.1.1.few, c.requires.box_in.places)
 
 pub offset_bounds-live-u : goal.offset_bounds-live-u
-offset_bounds-live-u c = omega (arith, (alive c.loop-k.invariant.0 c.loop-k-test.false c.loop-k.invariant.1.1).few, c.requires.box_in.places)
+offset_bounds-live-u c = omega (
+  arith,
+  (alive c.loop-k.invariant.0 c.loop-k-test.false c.loop-k.invariant.1.1).few,
+  c.requires.box_in.places,
+)
 
 pub bounds-live-u : goal.bounds-live-u
-bounds-live-u c = omega (arith, (alive c.loop-k.invariant.0 c.loop-k-test.false c.loop-k.invariant.1.1).few, c.requires.box_in.places)
+bounds-live-u c = omega (
+  arith,
+  (alive c.loop-k.invariant.0 c.loop-k-test.false c.loop-k.invariant.1.1).few,
+  c.requires.box_in.places,
+)
 
 pub offset_bounds-live-w : goal.offset_bounds-live-w
-offset_bounds-live-w c = omega (arith, (alive c.loop-k.invariant.0 c.loop-k-test.false c.loop-k.invariant.1.1).few, c.requires.box_in.places)
+offset_bounds-live-w c = omega (
+  arith,
+  (alive c.loop-k.invariant.0 c.loop-k-test.false c.loop-k.invariant.1.1).few,
+  c.requires.box_in.places,
+)
 
 pub bounds-live-w : goal.bounds-live-w
-bounds-live-w c = omega (arith, (alive c.loop-k.invariant.0 c.loop-k-test.false c.loop-k.invariant.1.1).few, c.requires.box_in.places)
+bounds-live-w c = omega (
+  arith,
+  (alive c.loop-k.invariant.0 c.loop-k-test.false c.loop-k.invariant.1.1).few,
+  c.requires.box_in.places,
+)
 
 pub bounds-t-k-in-loop-w : goal.bounds-t-k-in-loop-w
-bounds-t-k-in-loop-w c = omega (arith, (alive c.loop-k.invariant.0 c.loop-k-test.false c.loop-k.invariant.1.1).inside c.loop-w.w c.loop-w-test.true, c.requires.box_in.places)
+bounds-t-k-in-loop-w c = omega (
+  arith,
+  (alive c.loop-k.invariant.0 c.loop-k-test.false c.loop-k.invariant.1.1).inside
+      c.loop-w.w c.loop-w-test.true,
+  c.requires.box_in.places,
+)
 
 pub offset_bounds-x-k : goal.offset_bounds-x-k
-offset_bounds-x-k c = omega (arith, (alive c.loop-k.invariant.0 c.loop-k-test.false c.loop-k.invariant.1.1).inside c.loop-w.w c.loop-w-test.true, c.requires.box_in.places)
+offset_bounds-x-k c = omega (
+  arith,
+  (alive c.loop-k.invariant.0 c.loop-k-test.false c.loop-k.invariant.1.1).inside
+      c.loop-w.w c.loop-w-test.true,
+  c.requires.box_in.places,
+)
 
 pub bounds-x-k : goal.bounds-x-k
-bounds-x-k c = omega (arith, (alive c.loop-k.invariant.0 c.loop-k-test.false c.loop-k.invariant.1.1).inside c.loop-w.w c.loop-w-test.true, c.requires.box_in.places)
+bounds-x-k c = omega (
+  arith,
+  (alive c.loop-k.invariant.0 c.loop-k-test.false c.loop-k.invariant.1.1).inside c.loop-w.w
+      c.loop-w-test.true,
+  c.requires.box_in.places,
+)
 
 pub bounds-t-j : goal.bounds-t-j
-bounds-t-j c = omega (arith, (alive c.loop-k.invariant.0 c.loop-k-test.false c.loop-k.invariant.1.1).inside c.loop-u.u c.loop-u-test.true, c.requires.box_in.places)
+bounds-t-j c = omega (
+  arith,
+  (alive c.loop-k.invariant.0 c.loop-k-test.false c.loop-k.invariant.1.1).inside c.loop-u.u
+      c.loop-u-test.true,
+  c.requires.box_in.places,
+)
 
 pub offset_bounds-s-j : goal.offset_bounds-s-j
-offset_bounds-s-j c = omega (arith, (alive c.loop-k.invariant.0 c.loop-k-test.false c.loop-k.invariant.1.1).inside c.loop-u.u c.loop-u-test.true, c.requires.box_in.places)
+offset_bounds-s-j c = omega (
+  arith,
+  (alive c.loop-k.invariant.0 c.loop-k-test.false c.loop-k.invariant.1.1).inside
+      c.loop-u.u c.loop-u-test.true,
+  c.requires.box_in.places,
+)
 
 pub bounds-s-j : goal.bounds-s-j
-bounds-s-j c = omega (arith, (alive c.loop-k.invariant.0 c.loop-k-test.false c.loop-k.invariant.1.1).inside c.loop-u.u c.loop-u-test.true, c.requires.box_in.places)
+bounds-s-j c = omega (
+  arith,
+  (alive c.loop-k.invariant.0 c.loop-k-test.false c.loop-k.invariant.1.1).inside c.loop-u.u
+      c.loop-u-test.true,
+  c.requires.box_in.places,
+)
 
 pub offset_bounds-s-j-in-loop-u : goal.offset_bounds-s-j-in-loop-u
-offset_bounds-s-j-in-loop-u c = omega (arith, (alive c.loop-k.invariant.0 c.loop-k-test.false c.loop-k.invariant.1.1).inside c.loop-u.u c.loop-u-test.true, c.requires.box_in.places)
+offset_bounds-s-j-in-loop-u c = omega (
+  arith,
+  (alive c.loop-k.invariant.0 c.loop-k-test.false
+      c.loop-k.invariant.1.1).inside c.loop-u.u c.loop-u-test.true,
+  c.requires.box_in.places,
+)
 
 pub bounds-s-j-in-loop-u : goal.bounds-s-j-in-loop-u
-bounds-s-j-in-loop-u c = omega (arith, (alive c.loop-k.invariant.0 c.loop-k-test.false c.loop-k.invariant.1.1).inside c.loop-u.u c.loop-u-test.true, c.requires.box_in.places)
+bounds-s-j-in-loop-u c = omega (
+  arith,
+  (alive c.loop-k.invariant.0 c.loop-k-test.false c.loop-k.invariant.1.1).inside
+      c.loop-u.u c.loop-u-test.true,
+  c.requires.box_in.places,
+)

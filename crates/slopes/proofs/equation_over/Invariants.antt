@@ -19,14 +19,16 @@ parts n q x k t = term_slope n (coef_of q t) (exps_of q t) k (side_at x)
 
 abbrev pub invariant-loop-k : goal.invariant-loop-k
 invariant-loop-k l =
-    (l.k ≤ l.n) × ((l.b ≡ term_over l.k (coef_of l.q l.i) (exps_of l.q l.i) (side_at l.m)) × LiveIn l.k (exps_of l.q l.i) l.live l.some)
+    (l.k ≤ l.n) × ((l.b ≡ term_over l.k (coef_of l.q l.i) (exps_of l.q l.i) (side_at l.m))
+    × LiveIn l.k (exps_of l.q l.i) l.live l.some)
 
 abbrev pub decreases-loop-k : goal.decreases-loop-k
 decreases-loop-k l = l.n - l.k
 
 abbrev pub invariant-loop-w : goal.invariant-loop-w
 invariant-loop-w l =
-    (l.w ≤ l.some) × (l.a ≡ term_over (stop l.n l.live l.some l.w) (coef_of l.q l.i) (lowered l.j (exps_of l.q l.i)) (side_at l.x))
+    (l.w ≤ l.some) × (l.a ≡ term_over (stop l.n l.live l.some l.w) (coef_of l.q l.i) (lowered l.j (exps_of l.q l.i))
+    (side_at l.x))
 
 abbrev pub decreases-loop-w : goal.decreases-loop-w
 decreases-loop-w l = l.some - l.w
@@ -40,7 +42,8 @@ decreases-loop-u l = l.some - l.u
 abbrev pub invariant-loop-i : goal.invariant-loop-i
 invariant-loop-i l =
     (l.i ≤ l.count)
-    × ((l.v ≡ sum_i l.i (λ t. term_over l.n (coef_of l.q t) (exps_of l.q t) (side_at l.m))) × (l.s ≡ totals l.n (parts l.n l.q l.x) l.i))
+    × ((l.v ≡ sum_i l.i (λ t. term_over l.n (coef_of l.q t) (exps_of l.q t) (side_at l.m)))
+    × (l.s ≡ totals l.n (parts l.n l.q l.x) l.i))
 
 abbrev pub decreases-loop-i : goal.decreases-loop-i
 decreases-loop-i l = l.count - l.i

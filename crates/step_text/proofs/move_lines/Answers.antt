@@ -6,7 +6,8 @@ use Rattle.step_text.proofs.move_lines.Goals as goal
 pub hand_over-requires : goal.hand_over-requires
 hand_over-requires c =
     let lines =
-    move-stands c.args.n c.requires.few (search rules) c.args.d c.put_move-len.ensures in record { text_len = search rules; len_le_text_max = lines.short }
+    move-stands c.args.n c.requires.few (search rules) c.args.d c.put_move-len.ensures in
+    record { text_len = search rules; len_le_text_max = lines.short }
 
 pub returns : goal.returns
 returns c =

@@ -6,7 +6,8 @@ use Rattle.step_text.proofs.step_lines.Goals as goal
 
 pub put_move-len-requires : goal.put_move-len-requires
 put_move-len-requires c =
-    let short = image-short c.args.n c.args.k c.requires.ends_fit.few in record { ends_fit = c.requires.ends_fit_2; at_le_text_max = omega (arith, c.put_image-at.ensures.next, short) }
+    let short = image-short c.args.n c.args.k c.requires.ends_fit.few in
+    record { ends_fit = c.requires.ends_fit_2; at_le_text_max = omega (arith, c.put_image-at.ensures.next, short) }
 
 pub hand_over-requires : goal.hand_over-requires
 hand_over-requires c =

@@ -11,7 +11,10 @@ pub step_lines-requires : goal.step_lines-requires
 step_lines-requires c =
     let args = c.args in
     let told = ap (λ (i : Imaged). i.status) c.image-shown.ensures ∙ image-status args.j args.x in
-    let done = sym told ∙ c.in-Done.is in record { ends_fit = rw c.image-shown.ensures (image-fits args.j args.x done); ends_fit_2 = rw (c.decide.ensures, c.image-shown.ensures) (step_fits args.j args.x done) }
+    let done = sym told ∙ c.in-Done.is in record {
+      ends_fit = rw c.image-shown.ensures (image-fits args.j args.x done);
+      ends_fit_2 = rw (c.decide.ensures, c.image-shown.ensures) (step_fits args.j args.x done);
+    }
 
 pub returns-in-Refused : goal.returns-in-Refused
 returns-in-Refused c =

@@ -12,7 +12,8 @@ use Rattle.systems.proofs.eigen_equation.Given as goal
 
 abbrev pub invariant-loop-t : goal.invariant-loop-t
 invariant-loop-t l = (l.t ≤ l.count)
-    × (l.terms ≡ tab terms_max l.t zero_term (λ k. term_of l.n (row_coef l.n (number_at l.row) (pos mark) k) (eigen_e l.n l.p l.i k)))
+    × (l.terms ≡ tab terms_max l.t zero_term (λ k. term_of l.n (row_coef l.n (number_at l.row) (pos mark) k)
+    (eigen_e l.n l.p l.i k)))
 
 abbrev pub decreases-loop-t : goal.decreases-loop-t
 decreases-loop-t l = l.count - l.t

@@ -12,7 +12,10 @@ loop-i-init c = (omega arith, rw c.zero_equation-zero.ensures (tab-none zero_equ
 pub linear_equation-requires : goal.linear_equation-requires
 linear_equation-requires c =
     let p = c.requires in
-    let l = c.loop-i-test.true in record { n_le_n_max = p.places; within = rw (back (fits (p.each _ l) tt)) (p.each _ l) }
+    let l = c.loop-i-test.true in record {
+      n_le_n_max = p.places;
+      within = rw (back (fits (p.each _ l) tt)) (p.each _ l);
+    }
 
 pub loop-i-preserved : goal.loop-i-preserved
 loop-i-preserved c =

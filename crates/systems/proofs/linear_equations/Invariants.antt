@@ -11,7 +11,8 @@ use Rattle.systems.proofs.linear_equations.Given as goal
 
 abbrev pub invariant-loop-i : goal.invariant-loop-i
 invariant-loop-i l = (l.i ≤ l.n)
-    × (l.eqs ≡ tab n_max l.i zero_equation (λ k. linear_equation l.n (number_at (row_at l.rows k)) (number_at l.right k)))
+    × (l.eqs ≡ tab n_max l.i zero_equation (λ k. linear_equation l.n (number_at (row_at l.rows k))
+    (number_at l.right k)))
 
 abbrev pub decreases-loop-i : goal.decreases-loop-i
 decreases-loop-i l = l.n - l.i

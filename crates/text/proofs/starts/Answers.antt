@@ -23,7 +23,8 @@ module _ (l key : List ℕ) (i : ℕ) (p : i < length key) (q : i < length l) wh
   unfolding starts_with
   other n = rw (drop-cons key i 0 p, drop-cons l i 0 q) (simp (ne_eqb _ _ n))
 
-  more : get_or l i 0 ≡ get_or key i 0 → starts_with (drop i key) (drop i l) ≡ starts_with (drop (i + 1) key) (drop (i + 1) l)
+  more : get_or l i 0 ≡ get_or key i 0 → starts_with (drop i key) (drop i l)
+      ≡ starts_with (drop (i + 1) key) (drop (i + 1) l)
   unfolding starts_with
   more e = rw (drop-cons key i 0 p, drop-cons l i 0 q, add-one i) (simp (eq-eqb _ _ e))
 

@@ -14,7 +14,10 @@ box_of-x-requires c =
     (check_done c.args.j c.requires.job).few
 
 pub run_from-o-requires : goal.run_from-o-requires
-run_from-o-requires c = record { j_value = c.requires.job; box_in = rw c.box_of-x.ensures (box-right c.args.j c.args.r c.requires) }
+run_from-o-requires c = record {
+  j_value = c.requires.job;
+  box_in = rw c.box_of-x.ensures (box-right c.args.j c.args.r c.requires);
+}
 
 pub add-requires : goal.add-requires
 add-requires c = (

@@ -7,7 +7,10 @@ use Rattle.answers.proofs.calls.call_in.Goals as goal
 pub returns-in-Clear : goal.returns-in-Clear
 unfolding call_status call_text call_table
 returns-in-Clear c =
-    rw c.in-Clear.is record { answer = rw (c.silent.ensures, c.clear.ensures.answer) (silent-leaves _ _); table = c.clear.ensures.table }
+    rw c.in-Clear.is record {
+      answer = rw (c.silent.ensures, c.clear.ensures.answer) (silent-leaves _ _);
+      table = c.clear.ensures.table;
+    }
 
 pub returns-in-Open : goal.returns-in-Open
 unfolding call_status call_text call_table
@@ -28,4 +31,8 @@ returns-in-Reading c =
 pub returns-in-Close : goal.returns-in-Close
 unfolding call_status call_text call_table
 returns-in-Close c =
-    rw c.in-Close.is record { answer = rw (c.silent-in-Close.ensures, c.reply_close.ensures.answer) (silent-leaves _ _); table = c.reply_close.ensures.table }
+    rw c.in-Close.is record {
+      answer = rw (c.silent-in-Close.ensures, c.reply_close.ensures.answer)
+          (silent-leaves _ _);
+      table = c.reply_close.ensures.table;
+    }

@@ -20,4 +20,7 @@ as-numbers st slot visit e = rw e (go st)
     go (Status.Refused f line) = refl
 
 pub returns : goal.returns
-returns c = record { answer = c.told.ensures ∙ as-numbers _ _ _ c.open-o.ensures.answer; table = c.open-o.ensures.table }
+returns c = record {
+  answer = c.told.ensures ∙ as-numbers _ _ _ c.open-o.ensures.answer;
+  table = c.open-o.ensures.table;
+}

@@ -5,15 +5,24 @@ use Rattle.requests.proofs.packets.text_at.Goals as goal
 
 pub text_of-requires : goal.text_of-requires
 text_of-requires c =
-    record { from_le_header_max = c.requires.from_le_header_max; words_le_from = rw c.in-Ask.is at c.requires.request_bound }
+    record {
+      from_le_header_max = c.requires.from_le_header_max;
+      words_le_from = rw c.in-Ask.is at c.requires.request_bound;
+    }
 
 pub text_of-requires-in-List : goal.text_of-requires-in-List
 text_of-requires-in-List c =
-    record { from_le_header_max = c.requires.from_le_header_max; words_le_from = rw c.in-List.is at c.requires.request_bound }
+    record {
+      from_le_header_max = c.requires.from_le_header_max;
+      words_le_from = rw c.in-List.is at c.requires.request_bound;
+    }
 
 pub text_of-requires-in-Call : goal.text_of-requires-in-Call
 text_of-requires-in-Call c =
-    record { from_le_header_max = c.requires.from_le_header_max; words_le_from = rw c.in-Call.is at c.requires.request_bound }
+    record {
+      from_le_header_max = c.requires.from_le_header_max;
+      words_le_from = rw c.in-Call.is at c.requires.request_bound;
+    }
 
 pub returns-in-Bad : goal.returns-in-Bad
 unfolding text_at

@@ -37,7 +37,8 @@ returns-then-not-is_at c =
     ∙ c.if-is_at.false)
     (sym c.is_at-in-loop-a.ensures
     ∙ c.if-not-is_at.true) in
-    no-list c.put_number.new.vals w bad.0 (ap length c.put_number.ensures ∙ length-set l.vals l.count _ ∙ l.invariant.long)
+    no-list c.put_number.new.vals w bad.0 (ap length c.put_number.ensures ∙ length-set l.vals l.count _
+    ∙ l.invariant.long)
     bad.1
 
 pub loop-a-preserved : goal.loop-a-preserved

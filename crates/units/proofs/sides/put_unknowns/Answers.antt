@@ -18,7 +18,8 @@ unfolding unknown_lines
 no_lines lo hi = refl
 
 line-more : (i : ℕ) (lo hi : List ℤ)
-    → unknown_lines (i + 1) lo hi ≡ unknown_lines i lo hi ++ unknown_line (i + 1) (get_or lo i (pos 0)) (get_or hi i (pos 0))
+    → unknown_lines (i + 1) lo hi ≡ unknown_lines i lo hi ++ unknown_line (i + 1) (get_or lo i (pos 0))
+    (get_or hi i (pos 0))
 unfolding unknown_lines
 line-more i lo hi = rw (add-one i)
 
