@@ -12,8 +12,7 @@ use borrow.Author.Tests.{leb-true, leb-false, lt-ltb, le-ltb}
 use Rattle.faults.specs.Answer.{refused, answer_of, left_in, Leaves}
 use Rattle.faults.specs.Checks.{bad_unless, on_line, and_then}
 use Rattle.faults.specs.declared.Fault.{Fault}
-use Rattle.faults.specs.declared.Status.{Status}
-use Rattle.faults.specs.declared.Written.{Written}
+use Rattle.faults.specs.Checked.{Status, Written, Checked}
 use Rattle.faults.proofs.Answer.{values-bad, has_room}
 use Rattle.text.specs.Words.{visit_key}
 use Rattle.writing.specs.Wrote.{Wrote}
@@ -23,23 +22,24 @@ use Rattle.room_form.specs.declared.Opened.{Opened}
 use Rattle.room_form.specs.Calls.{open_answer}
 use Rattle.answers.specs.Answers.{room_max}
 use Rattle.answers.specs.Calls.{slot_key, opened_bytes, or_short}
+use Rattle.std.specs.Prelude.{Ok, Err}
 
 -- ---- no text
 
 pub silent-leaves : (st : Status) (old : List ℕ) → Leaves st [] old old (refused st)
-silent-leaves Status.Done old = has_room [] old (omega arith) refl
-silent-leaves (Status.Refused f line) old = values-bad [] old f line
+silent-leaves (Ok tt) old = has_room [] old (omega arith) refl
+silent-leaves (Err r) old = values-bad [] old r.fault r.line
 
 -- ---- a slot and a visit
 
 module _ {r : Opened} where
   pub opened-status : (st : Status) (slot visit : ℕ) → r ≡ open_answer st slot visit → r.status ≡ st
   unfolding open_answer
-  opened-status Status.Done slot visit e = ap (λ (x : Opened). x.status) e
-  opened-status (Status.Refused f line) slot visit e = ap (λ (x : Opened). x.status) e
+  opened-status (Ok tt) slot visit e = ap (λ (x : Opened). x.status) e
+  opened-status (Err r) slot visit e = ap (λ (x : Opened). x.status) e
 
-  pub opened-done : {st : Status} {slot visit : ℕ} → r ≡ open_answer st slot visit → st ≡ Status.Done
-      → r ≡ record { status = Status.Done; slot = slot; visit = visit }
+  pub opened-done : {st : Status} {slot visit : ℕ} → r ≡ open_answer st slot visit → st ≡ Ok tt
+      → r ≡ record { status = Ok tt; slot = slot; visit = visit }
   unfolding open_answer
   opened-done e d = rw d at e
 
@@ -51,7 +51,7 @@ opened-short slot visit =
 
 pub opened-leaves : {old new : List ℕ} {r : ℕ} (slot visit : ℕ) → room_max ≤ length old
     → Wrote old new 0 r (opened_bytes slot visit)
-    → Leaves Status.Done (opened_bytes slot visit) old new (record { status = Status.Done; len = r })
+    → Leaves (Ok tt) (opened_bytes slot visit) old new (Ok r)
 opened-leaves {old} {new} {r} slot visit h w =
     let bs = opened_bytes slot visit in
     let n : r ≡ length bs = w.next ∙ zero-add (length bs) in
@@ -65,20 +65,20 @@ opened-leaves {old} {new} {r} slot visit h w =
 module _ (t old : List ℕ) (room : ℕ) (inside : room ≤ length old) where
   -- what is left in the first m bytes, which are lent, is left in all
   abbrev Whole : ℕ → Status → Type 0
-  Whole m st = (new : List ℕ) (a : Written) → Leaves st t (take m old) new a
+  Whole m st = (new : List ℕ) (a : Checked ℕ) → Leaves st t (take m old) new a
       → Leaves (or_short st room t) t old (new ++ drop m old) a
 
   lent-long : length (take room old) ≡ room
   lent-long = length-take-le room old inside
 
-  part-bad : (f : Fault) (line : ℕ) → Whole room (Status.Refused f line)
+  part-bad : (f : Fault) (line : ℕ) → Whole room (refused f line)
   unfolding answer_of left_in and_then
   part-bad f line new a w = record {
     answer = w.answer;
     left = ap (λ (xs : List ℕ). xs ++ drop room old) w.left ∙ take-append-drop room old;
   }
 
-  part-long : leb (length t) room ≡ false → Whole room Status.Done
+  part-long : leb (length t) room ≡ false → Whole room (Ok tt)
   unfolding answer_of left_in and_then bad_unless on_line
   part-long e new a w =
       let much = lt-ltb (length (take room old)) (length t) (omega (arith, lent-long, leb-false (length t) room e)) in
@@ -88,7 +88,7 @@ module _ (t old : List ℕ) (room : ℕ) (inside : room ≤ length old) where
         left = ap (λ (xs : List ℕ). xs ++ drop room old) (rw much at w.left) ∙ take-append-drop room old;
       })
 
-  part-short : leb (length t) room ≡ true → Whole room Status.Done
+  part-short : leb (length t) room ≡ true → Whole room (Ok tt)
   unfolding answer_of left_in and_then bad_unless on_line
   part-short e new a w =
       let short = leb-true (length t) room e in
@@ -98,13 +98,13 @@ module _ (t old : List ℕ) (room : ℕ) (inside : room ≤ length old) where
       ∙ sets-eq t old 0 (omega arith) ∙ ap (λ (k : ℕ). t ++ drop k old) (zero-add (length t)) in
       rw (e, rw few at w.answer) (has_room t old (omega arith) left)
 
-  part-done : (b : Bool) → leb (length t) room ≡ b → Whole room Status.Done
+  part-done : (b : Bool) → leb (length t) room ≡ b → Whole room (Ok tt)
   part-done true e = part-short e
   part-done false e = part-long e
 
   part-whole : (st : Status) → Whole room st
-  part-whole Status.Done = part-done (leb (length t) room) refl
-  part-whole (Status.Refused f line) = part-bad f line
+  part-whole (Ok tt) = part-done (leb (length t) room) refl
+  part-whole (Err r) = part-bad r.fault r.line
 
   pub part-leaves : (st : Status) → Whole (room - 0) st
   part-leaves st = let e : room ≡ room - 0 = omega arith in subst (λ (m : ℕ). Whole m st) e (part-whole st)

@@ -1,14 +1,13 @@
 -- What a request is answered with, and how the answer is put.
-use Rattle.std.specs.Prelude.{ℕ, ◌+◌, ◌≤◌, ◌≡◌, List, [], ◌∷◌, ◌++◌, length, take, drop}
+use Rattle.std.specs.Prelude.{ℕ, ◌+◌, ◌≤◌, ◌≡◌, List, [], ◌∷◌, ◌++◌, length, take, drop, Ok, Err}
 use Rattle.sizes.specs.Sizes.{text_max, boxes_max}
 use Rattle.digits.specs.Bytes.{line_feed}
 use Rattle.digits.specs.Number.{digits_max}
 use Rattle.digits.specs.Show.{show_magnitude}
 use Rattle.text.specs.Cut.{end_each}
 use Rattle.faults.specs.Words.{number_of, line_of}
-use Rattle.faults.specs.declared.Status.{Status}
+use Rattle.faults.specs.Checked.{Status, Written, Checked}
 use Rattle.writing.specs.Wrote.{Wrote, line}
-use Rattle.faults.specs.declared.Written.{Written}
 use Rattle.desk.specs.Desk.{solve_status, solve_text, job_status, job_text, result_status, result_text}
 use Rattle.arguments.specs.Words.{space, behind}
 use Rattle.arguments.specs.Boxes.{boxed_by, told_by}
@@ -84,11 +83,11 @@ room_max = text_max
 
 -- the text that stands in the buffer as it is, a fault by its two lines
 unfoldable pub told_of : Status → ℕ → List ℕ → List ℕ
-told_of Status.Done len old = take len old
-told_of (Status.Refused f line) len old = fault_bytes (Status.Refused f line)
+told_of (Ok tt) len old = take len old
+told_of (Err r) len old = fault_bytes (Err r)
 
 -- what is told stands whole at the buffer's start, and the bytes beyond it are the old ones
-pub record Tells (a : Written) (old new : List ℕ) (r : ℕ) : Type 0 where
+pub record Tells (a : Checked ℕ) (old new : List ℕ) (r : ℕ) : Type 0 where
   pub count : r ≡ length (told_of a.status a.len old)
   pub bytes : new ≡ told_of a.status a.len old ++ drop r old
   pub small : r ≤ room_max

@@ -7,7 +7,7 @@ use Rattle.text.specs.Cut.{end_each}
 use Rattle.text.specs.Words.{visit_key}
 use Rattle.faults.specs.Checks.{and_then}
 use Rattle.faults.specs.declared.Fault.{Fault}
-use Rattle.faults.specs.declared.Status.{Status}
+use Rattle.faults.specs.Checked.{Status}
 use Rattle.arguments.specs.Words.{space, behind}
 use Rattle.arguments.specs.Visits.{shown_by, read_by}
 use Rattle.arguments.specs.declared.visits.Shown.{Shown}

@@ -5,7 +5,6 @@ mod calls;
 mod parts;
 
 ghost use Rattle.std.specs.Prelude.{◌≡◌, ◌+◌, ◌≤◌, ◌<◌, length};
-ghost use Rattle.faults.specs.declared.Status.{Status};
 ghost use Rattle.writing.specs.Wrote.{place_max, Wrote};
 ghost use Rattle.faults.specs.Answer.{Leaves};
 ghost use Rattle.desk.specs.Desk.{job_status, job_text};

@@ -11,12 +11,12 @@ use lib.IntN.{ℤ}
 use borrow.Author.Tests.{lt-ltb, le-ltb}
 use Rattle.sizes.specs.Sizes.{n_max}
 use Rattle.digits.specs.Bytes.{comma}
-use Rattle.digits.specs.declared.Number.{Number}
 use Rattle.text.specs.Cut.{place_of, PieceEnd}
 use Rattle.text.proofs.Ends.{end-from}
 use Rattle.arguments.specs.Longs.{long_of}
 use Rattle.arguments.specs.Words.{before, behind}
 use Rattle.arguments.specs.Lists.{no_places, if_number, places_from, places_of}
+use Rattle.std.specs.Prelude.{Some, None}
 
 -- the fields from `from` on come to the places from i on
 pub record Inv (s : List ℕ) (at : List ℤ) (from i : ℕ) : Type 0 where
@@ -25,11 +25,11 @@ pub record Inv (s : List ℕ) (at : List ℤ) (from i : ℕ) : Type 0 where
   pub same : places_from (n_max - i) i at (drop from s) ≡ places_of s
 
 module _ (k i : ℕ) (at : List ℤ) (t : List ℕ) where
-  first-bad : long_of (before comma t) ≡ Number.Bad → places_from (suc k) i at t ≡ no_places
+  first-bad : long_of (before comma t) ≡ None → places_from (suc k) i at t ≡ no_places
   unfolding places_from if_number
   first-bad e = rw e
 
-  first_good : (v : ℤ) → long_of (before comma t) ≡ Number.Is v
+  first_good : (v : ℤ) → long_of (before comma t) ≡ Some v
       → places_from (suc k) i at t
       ≡ cond (ltb (place_of comma t) (length t)) (places_from k (i + 1) (set at i v) (behind comma t))
       (record { good = true; at = set at i v })
@@ -51,10 +51,10 @@ module _ {s : List ℕ} {at : List ℤ} {from i e : ℕ} (inv : Inv s at from i)
   from-here : places_from (suc (n_max - (i + 1))) i at (drop from s) ≡ places_of s
   from-here = let z : n_max - i ≡ suc (n_max - (i + 1)) = omega arith in rw z at inv.same
 
-  pub field-bad : Number.Bad ≡ long_of (take (e - from) (drop from s)) → no_places ≡ places_of s
+  pub field-bad : None ≡ long_of (take (e - from) (drop from s)) → no_places ≡ places_of s
   field-bad b = sym (first-bad _ i at (drop from s) (ap long_of first-is ∙ sym b)) ∙ from-here
 
-  module _ {v : ℤ} (n : Number.Is v ≡ long_of (take (e - from) (drop from s))) where
+  module _ {v : ℤ} (n : Some v ≡ long_of (take (e - from) (drop from s))) where
     next : cond (ltb (e - from) (length (drop from s)))
         (places_from (n_max - (i + 1)) (i + 1) (set at i v) (drop (e + 1) s)) (record { good = true; at = set at i v })
         ≡ places_of s

@@ -1,5 +1,6 @@
 -- A count in digits: the length of a request's text, and n.
-use Rattle.std.specs.Prelude.{ℕ, ◌+◌, ◌-◌, ◌*◌, min, List, [], ◌∷◌, Bool, false, cond, length, get_or, eqb}
+use Rattle.std.specs.Prelude.{ℕ, ◌+◌, ◌-◌, ◌*◌, min, List, [], ◌∷◌, Bool, false, cond, length, get_or, eqb, Some, None}
+use Rattle.std.specs.Prelude.{Option}
 use Rattle.digits.specs.Bytes.{digit0}
 use Rattle.digits.specs.Digits.{all_digits}
 use Rattle.arguments.specs.declared.counts.Counted.{Counted}
@@ -24,5 +25,5 @@ is_spelled s =
     (cond (eqb (get_or s 0 0) digit0) (eqb (length s) 1)
     (all_digits s))
 
-unfoldable pub count_by : List ℕ → Counted
-count_by s = cond (is_spelled s) (Counted.Is (capped (value_from 0 s))) Counted.Bad
+unfoldable pub count_by : List ℕ → Option ℕ
+count_by s = cond (is_spelled s) (Some (capped (value_from 0 s))) None

@@ -1,8 +1,8 @@
 -- A list: 1 to `n_max` long numbers joined by commas; a place that it does not name is 0.
-use Rattle.std.specs.Prelude.{ℕ, zero, suc, ◌+◌, List, true, false, cond, length, set, replicate, ltb, ℤ, pos}
+use Rattle.std.specs.Prelude.{ℕ, zero, suc, ◌+◌, List, true, false, cond, length, set, replicate, ltb, ℤ, pos, Some, None}
+use Rattle.std.specs.Prelude.{Option}
 use Rattle.sizes.specs.Sizes.{n_max}
 use Rattle.digits.specs.Bytes.{comma}
-use Rattle.digits.specs.declared.Number.{Number}
 use Rattle.text.specs.Cut.{place_of}
 use Rattle.arguments.specs.Longs.{long_of}
 use Rattle.arguments.specs.Words.{before, behind}
@@ -12,9 +12,9 @@ abbrev pub no_places : Places
 no_places = record { good = false; at = replicate n_max (pos 0) }
 
 -- what is made of a number, if it is one
-unfoldable pub if_number : Number → (ℤ → Places) → Places
-if_number (Number.Is v) f = f v
-if_number Number.Bad f = no_places
+unfoldable pub if_number : Option ℤ → (ℤ → Places) → Places
+if_number (Some v) f = f v
+if_number None f = no_places
 
 -- the fields of s stand at the places from i on, of which k are left
 unfoldable pub places_from : ℕ → ℕ → List ℤ → List ℕ → Places

@@ -2,8 +2,7 @@
 use Prim.Native.Nat.{ℕ}
 use mathlib.Core.Path.{◌≡◌, sym, ap, ◌∙◌}
 use mathlib.Core.List.{List}
-use Rattle.faults.specs.declared.Status.{Status}
-use Rattle.faults.specs.declared.Written.{Written}
+use Rattle.faults.specs.Checked.{Status, Written}
 use Rattle.faults.specs.Answer.{Leaves}
 use Rattle.c_answers.specs.declared.Answer.{Answer}
 use Rattle.c_answers.specs.Numbers.{numbers_of, Gives}

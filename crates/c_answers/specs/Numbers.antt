@@ -1,13 +1,12 @@
 -- The answers as C has them: "A fault returns its number and a line", 0 and 0 where there is none, and how many bytes
 -- were written.
 use Rattle.std.specs.Prelude.{ℕ, ◌≡◌, List}
-use Rattle.faults.specs.declared.Status.{Status}
+use Rattle.faults.specs.Checked.{Status, Written, Checked}
 use Rattle.faults.specs.Words.{number_of, line_of}
-use Rattle.faults.specs.declared.Written.{Written}
 use Rattle.faults.specs.Answer.{answer_of, left_in}
 use Rattle.c_answers.specs.declared.Answer.{Answer}
 
-abbrev pub numbers_of : Written → Answer
+abbrev pub numbers_of : Checked ℕ → Answer
 numbers_of w = record { fault = number_of w.status; line = line_of w.status; len = w.len }
 
 -- a check writes nothing

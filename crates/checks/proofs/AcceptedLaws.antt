@@ -14,8 +14,6 @@ use Rattle.jobs.specs.declared.Term.{Term}
 use Rattle.jobs.specs.declared.Equation.{Equation}
 use Rattle.jobs.specs.declared.Job.{Job}
 use Rattle.faults.specs.declared.Fault.{Fault}
-use Rattle.faults.specs.declared.Finding.{Finding}
-use Rattle.faults.specs.declared.Status.{Status}
 use Rattle.jobs.specs.Places.{exp_of, term_at, row_at}
 use Rattle.term_checks.specs.Terms.{alike, falls, in_order, degree, good_term, good_place, good_terms, good_coefs}
 use Rattle.checks.specs.Checks.{good_matrix}
@@ -29,6 +27,7 @@ use Rattle.term_checks.proofs.TermLaws.{falls-lower, abs-zero}
 use Rattle.faults.proofs.Laws.{fine-first, fine-next, both-fine, unless-fine, fine-unless, fine-line, line-fine}
 use Rattle.faults.proofs.Laws.{done_first, done_next, both-done, lines-each, each-lines}
 use Rattle.checks.proofs.CheckLaws.{unknowns-fine}
+use Rattle.std.specs.Prelude.{Ok}
 
 -- ---- the order of two terms
 falls-order : (t u : Term) (n : ℕ) → falls t u n ≡ true → Falls t u n
@@ -105,20 +104,20 @@ module _ (q : Equation) (n : ℕ) where
           (rw (le-leb (degree n (exp_of (term_at q k))) degree_max (g.deg k l)) (order k l))
 
 -- ---- the pin
-pin-good : (kind : Kind) (n pin : ℕ) → pin_check kind n pin ≡ Finding.Fine → GoodPin kind n pin
+pin-good : (kind : Kind) (n pin : ℕ) → pin_check kind n pin ≡ Ok tt → GoodPin kind n pin
 unfolding pin_check
 pin-good Kind.Poly n pin e = tt
 pin-good Kind.Linear n pin e = tt
 pin-good Kind.Eigen n pin e = one-to n pin (unless-fine _ Fault.Pin e)
 
-good-pin : (kind : Kind) (n pin : ℕ) → GoodPin kind n pin → pin_check kind n pin ≡ Finding.Fine
+good-pin : (kind : Kind) (n pin : ℕ) → GoodPin kind n pin → pin_check kind n pin ≡ Ok tt
 unfolding pin_check
 good-pin Kind.Poly n pin g = refl
 good-pin Kind.Linear n pin g = refl
 good-pin Kind.Eigen n pin g = fine-unless Fault.Pin (to_one n pin g.0 g.1)
 
 -- ---- a line of the system
-system-good : (kind : Kind) (j : Job) (i : ℕ) → system_check kind j i ≡ Finding.Fine → GoodSystem kind j i
+system-good : (kind : Kind) (j : Job) (i : ℕ) → system_check kind j i ≡ Ok tt → GoodSystem kind j i
 unfolding system_check equation_check row_check sided_check
 system-good Kind.Poly j i e =
     equation-good _ j.head.n (unless-fine _ Fault.Beyond (fine-first _ _ e))
@@ -129,7 +128,7 @@ system-good Kind.Linear j i e = (
 )
 system-good Kind.Eigen j i e = all-within _ j.head.n entry_max (unless-fine _ Fault.Beyond e)
 
-good-system : (kind : Kind) (j : Job) (i : ℕ) → GoodSystem kind j i → system_check kind j i ≡ Finding.Fine
+good-system : (kind : Kind) (j : Job) (i : ℕ) → GoodSystem kind j i → system_check kind j i ≡ Ok tt
 unfolding system_check equation_check row_check sided_check
 good-system Kind.Poly j i g = both-fine (fine-unless Fault.Beyond (good-coefs _ j.head.n g))
     (fine-unless Fault.Terms (good-terms _ j.head.n g))
@@ -142,16 +141,16 @@ good-system Kind.Eigen j i g = fine-unless Fault.Beyond (within_all _ j.head.n e
 
 -- on each line nothing is found
 pub record Clean (j : Job) : Type 0 where
-  pub number : number_check j.head.number ≡ Finding.Fine
-  pub unknowns : unknowns_check j.head.n ≡ Finding.Fine
-  pub pin : pin_check j.head.kind j.head.n j.head.pin ≡ Finding.Fine
-  pub low : low_check j.head.n j.ends.lo ≡ Finding.Fine
-  pub high : high_check j.head.n j.ends.lo j.ends.hi ≡ Finding.Fine
-  pub inverse : inverse_check j.head.n j.inv ≡ Finding.Fine
-  pub steps : steps_check j.steps ≡ Finding.Fine
-  pub system : (i : ℕ) → i < j.head.n → system_check j.head.kind j i ≡ Finding.Fine
+  pub number : number_check j.head.number ≡ Ok tt
+  pub unknowns : unknowns_check j.head.n ≡ Ok tt
+  pub pin : pin_check j.head.kind j.head.n j.head.pin ≡ Ok tt
+  pub low : low_check j.head.n j.ends.lo ≡ Ok tt
+  pub high : high_check j.head.n j.ends.lo j.ends.hi ≡ Ok tt
+  pub inverse : inverse_check j.head.n j.inv ≡ Ok tt
+  pub steps : steps_check j.steps ≡ Ok tt
+  pub system : (i : ℕ) → i < j.head.n → system_check j.head.kind j i ≡ Ok tt
 
-pub check-clean : (j : Job) → check_job j ≡ Status.Done → Clean j
+pub check-clean : (j : Job) → check_job j ≡ Ok tt → Clean j
 unfolding check_job head_lines body_lines system_lines job_line_status line_check
 check-clean j e =
     let head = done_first _ _ e in
@@ -172,7 +171,7 @@ check-clean j e =
       system = λ i l. fine-line _ _ (lines-each _ j.head.n i l system);
     }
 
-pub clean-check : (j : Job) → Clean j → check_job j ≡ Status.Done
+pub clean-check : (j : Job) → Clean j → check_job j ≡ Ok tt
 unfolding check_job head_lines body_lines system_lines job_line_status line_check
 clean-check j c =
     both-done (both-done (line-fine _ c.number)
@@ -183,7 +182,7 @@ clean-check j c =
     (both-done (line-fine _ c.steps) (each-lines _ j.head.n (λ i l. line-fine _ (c.system i l)))))))
 
 -- a job in which the checks find nothing is accepted
-pub check_done : (j : Job) → check_job j ≡ Status.Done → Accepted j
+pub check_done : (j : Job) → check_job j ≡ Ok tt → Accepted j
 unfolding number_check low_check high_check inverse_check good_matrix steps_check
 check_done j e =
     let c = check-clean j e in
@@ -203,7 +202,7 @@ check_done j e =
     }
 
 -- and in an accepted job they find nothing
-pub done-check : (j : Job) → Accepted j → check_job j ≡ Status.Done
+pub done-check : (j : Job) → Accepted j → check_job j ≡ Ok tt
 unfolding number_check unknowns_check low_check high_check inverse_check good_matrix steps_check
 done-check j a = clean-check j (record {
   number = fine-unless Fault.Beyond (le-leb j.head.number number_max a.number);

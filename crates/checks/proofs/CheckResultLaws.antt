@@ -6,7 +6,6 @@ use lib.IntN.{pos}
 use borrow.Author.Tests.{leb-true, le-leb}
 use Rattle.sizes.specs.Sizes.{n_max, steps_max, number_max, visit_max, end_max}
 use Rattle.faults.specs.declared.Fault.{Fault}
-use Rattle.faults.specs.declared.Status.{Status}
 use Rattle.faults.proofs.Laws.{fine-first, fine-next, both-fine, unless-fine, fine-unless, fine-line, line-fine}
 use Rattle.faults.proofs.Laws.{done_first, done_next, both-done}
 use Rattle.jobs.specs.declared.Result.{Result}
@@ -15,6 +14,7 @@ use Rattle.checks.specs.Checks.{number_check, steps_check, low_check, high_check
 use Rattle.checks.specs.CheckResult.{visit_check, count_check, counted_check}
 use Rattle.checks.specs.CheckResult.{result_check, result_line_status, check_result}
 use Rattle.checks.proofs.CheckLaws.{count-fine}
+use Rattle.std.specs.Prelude.{Ok}
 
 pub record Sound (r : Result) : Type 0 where
   pub number : r.number ≤ number_max
@@ -26,7 +26,7 @@ pub record Sound (r : Result) : Type 0 where
   pub high : all_within r.hi r.n (pos end_max) ≡ true
   pub ordered : all_ordered r.lo r.hi r.n ≡ true
 
-pub sound : (r : Result) → check_result r ≡ Status.Done → Sound r
+pub sound : (r : Result) → check_result r ≡ Ok tt → Sound r
 unfolding check_result result_line_status result_check visit_check counted_check number_check steps_check low_check
     high_check
 sound r e =
@@ -46,7 +46,7 @@ sound r e =
       ordered = unless-fine _ Fault.Crossed (fine-next _ _ high);
     }
 
-pub unfaulted : (r : Result) → Sound r → check_result r ≡ Status.Done
+pub unfaulted : (r : Result) → Sound r → check_result r ≡ Ok tt
 unfolding check_result result_line_status result_check visit_check counted_check count_check number_check steps_check
     low_check high_check
 unfaulted r s =

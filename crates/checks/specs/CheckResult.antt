@@ -1,10 +1,9 @@
 -- The checks of a result's values. "Values handed over without text get the same checks in the same line order."
-use Rattle.std.specs.Prelude.{ℕ, List, leb, ℤ}
+use Rattle.std.specs.Prelude.{ℕ, List, leb, ℤ, Ok}
 use Rattle.sizes.specs.Sizes.{n_max, visit_max}
 use Rattle.faults.specs.Checks.{bad_unless, first_of, on_line, and_then}
 use Rattle.faults.specs.declared.Fault.{Fault}
-use Rattle.faults.specs.declared.Finding.{Finding}
-use Rattle.faults.specs.declared.Status.{Status}
+use Rattle.faults.specs.Checked.{Finding, Status}
 use Rattle.jobs.specs.declared.Result.{Result}
 use Rattle.jobs.specs.declared.ResultLine.{ResultLine}
 use Rattle.jobs.specs.Lines.{result_number}
@@ -26,11 +25,11 @@ counted_check n lo = first_of (count_check n) (low_check n lo)
 unfoldable pub result_check : ResultLine → Result → Finding
 result_check ResultLine.Number r = number_check r.number
 result_check ResultLine.Visit r = visit_check r.visit
-result_check ResultLine.Verdict r = Finding.Fine
+result_check ResultLine.Verdict r = Ok tt
 result_check ResultLine.Steps r = steps_check r.steps
 result_check ResultLine.Lo r = counted_check r.n r.lo
 result_check ResultLine.Hi r = high_check r.n r.lo r.hi
-result_check ResultLine.End r = Finding.Fine
+result_check ResultLine.End r = Ok tt
 
 unfoldable pub result_line_status : ResultLine → Result → Status
 result_line_status k r = on_line (result_check k r) (result_number k)

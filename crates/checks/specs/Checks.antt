@@ -2,7 +2,7 @@
 -- comes before the others, then 3, then 4, then 5 or 6", and "values handed over without text get the same checks in
 -- the same line order".
 -- Each kind of line has its check, over values; the text's reader has the same.
-use Rattle.std.specs.Prelude.{ℕ, Bool, List, leb, get_or, ℤ, pos}
+use Rattle.std.specs.Prelude.{ℕ, Bool, List, leb, get_or, ℤ, pos, Ok}
 use Rattle.sizes.specs.Sizes.{n_max, steps_max, number_max, end_max, entry_max}
 use Rattle.lists.specs.Loops.{all_b}
 use Rattle.faults.specs.Checks.{bad_unless, first_of, on_line, and_then, lines_of}
@@ -12,8 +12,7 @@ use Rattle.jobs.specs.declared.Row.{Row}
 use Rattle.jobs.specs.declared.Job.{Job}
 use Rattle.jobs.specs.declared.JobLine.{JobLine}
 use Rattle.faults.specs.declared.Fault.{Fault}
-use Rattle.faults.specs.declared.Finding.{Finding}
-use Rattle.faults.specs.declared.Status.{Status}
+use Rattle.faults.specs.Checked.{Finding, Status}
 use Rattle.jobs.specs.Lines.{job_number}
 use Rattle.jobs.specs.Places.{equation_at, row_at}
 use Rattle.term_checks.specs.Ranges.{one_to, is_within, all_within, all_ordered}
@@ -49,8 +48,8 @@ good_pin n pin = one_to n pin
 
 -- "In values handed over without text, a pin equal to n means the last and is accepted; other kinds ignore it."
 unfoldable pub pin_check : Kind → ℕ → ℕ → Finding
-pin_check Kind.Poly n pin = Finding.Fine
-pin_check Kind.Linear n pin = Finding.Fine
+pin_check Kind.Poly n pin = Ok tt
+pin_check Kind.Linear n pin = Ok tt
 pin_check Kind.Eigen n pin = bad_unless (good_pin n pin) Fault.Pin
 
 unfoldable pub low_check : ℕ → List ℤ → Finding
@@ -89,7 +88,7 @@ system_check Kind.Eigen j i = row_check j.head.n (row_at j.system.rows i)
 -- the kind is one of three, so nothing can be wrong with its line
 unfoldable pub line_check : JobLine → Job → Finding
 line_check JobLine.Number j = number_check j.head.number
-line_check JobLine.Kind j = Finding.Fine
+line_check JobLine.Kind j = Ok tt
 line_check JobLine.Unknowns j = unknowns_check j.head.n
 line_check JobLine.Pin j = pin_check j.head.kind j.head.n j.head.pin
 line_check JobLine.Lo j = low_check j.head.n j.ends.lo
@@ -97,7 +96,7 @@ line_check JobLine.Hi j = high_check j.head.n j.ends.lo j.ends.hi
 line_check JobLine.Inv j = inverse_check j.head.n j.inv
 line_check JobLine.Steps j = steps_check j.steps
 line_check (JobLine.System i) j = system_check j.head.kind j i
-line_check JobLine.End j = Finding.Fine
+line_check JobLine.End j = Ok tt
 
 -- ---- line after line
 

@@ -9,18 +9,18 @@ use lib.IntN.{ℤ, pos, negsuc, nat_abs}
 use borrow.Author.Tests.{lt-ltb, le-ltb, eq-eqb, ne_eqb}
 use Rattle.digits.specs.Bytes.{digit0, digit9}
 use Rattle.digits.specs.Number.{digits_max, digits_from}
-use Rattle.digits.specs.declared.Magnitude.{Magnitude}
 use Rattle.digits.specs.Show.{show_magnitude}
 use Rattle.digits.proofs.ReadBack.{digits-back}
 use Rattle.digits.proofs.Cases.{either, same_or}
 use Rattle.decimals.specs.Units.{unit, decimals_max, decimals, fraction, show_size, show_units}
 use Rattle.decimals.specs.Denotes.{sign_of, pointed, Denotes}
+use Rattle.std.specs.Prelude.{Some, None}
 
 -- the digits ds, behind a point and after the whole number v, spell v units and r marks: with L digits, the number m of
 -- all of them is that times 10 to the power L
 pub record Spell (v r : ℕ) (ds : List ℕ) : Type 0 where
   pub m : ℕ
-  pub digits : digits_from v ds ≡ Magnitude.Is m
+  pub digits : digits_from v ds ≡ Some m
   pub exact : m * unit ≡ (v * unit + r) * 10 ^ length ds
 
 none : (v r : ℕ) → r ≡ 0 → Spell v r []
@@ -102,11 +102,11 @@ shortest (suc k) r q ds h e n =
         p (omega (arith, t.0, z))
     step p (b ∷ ds) m again = again ds (omega arith) (rest-whole k r q e) (parts_are _ _ _ _ m).1
 
-bad-is : {A : Type 0} (m : ℕ) → Magnitude.Bad ≡ Magnitude.Is m → A
+bad-is : {A : Type 0} (m : ℕ) → None ≡ Some m → A
 bad-is m e = absurd (let z : ◌≡◌ {A = ℕ} 0 1 = cc in omega arith)
 
 -- digits go on after what was spelled
-spelled-on : (v u : ℕ) (xs ys : List ℕ) → digits_from v xs ≡ Magnitude.Is u
+spelled-on : (v u : ℕ) (xs ys : List ℕ) → digits_from v xs ≡ Some u
     → digits_from v (xs ++ ys) ≡ digits_from u ys
 unfolding digits_from
 spelled-on v u [] ys e = let w : v ≡ u = cc in rw w

@@ -6,18 +6,17 @@ use Rattle.checks.specs.Checks.{check_job}
 use Rattle.checks.specs.CheckResult.{check_result}
 use Rattle.result_form.specs.ResultForm.{read_result}
 use Rattle.result_form.specs.ResultShows.{show_result}
-use Rattle.job_form.specs.declared.JobRead.{JobRead}
 use Rattle.job_form.specs.JobForm.{read_job}
 use Rattle.job_form.specs.JobBytes.{job_bytes}
 use Rattle.run.specs.Job.{run_job}
-use Rattle.faults.specs.declared.Status.{Status}
+use Rattle.faults.specs.Checked.{Status, Checked, status_of}
 use Rattle.jobs.specs.declared.Job.{Job}
 
 -- what a job's reader answers is written
-abbrev pub written_status : JobRead → Status
+abbrev pub written_status : Checked Job → Status
 written_status r = and_then r.status (check_job r.job)
 
-abbrev pub written_text : JobRead → List ℕ
+abbrev pub written_text : Checked Job → List ℕ
 written_text r = job_bytes r.job
 
 -- a job text is read and written again
@@ -29,23 +28,23 @@ job_text t = written_text (read_job t)
 
 -- a result text is read and written again
 unfoldable pub result_status : List ℕ → Status
-result_status t = and_then (read_result t).status (check_result (read_result t).result)
+result_status t = and_then (status_of (read_result t)) (check_result (result_in (read_result t)))
 
 unfoldable pub result_text : List ℕ → List ℕ
-result_text t = show_result (read_result t).result
+result_text t = show_result (result_in (read_result t))
 
 -- a job is run, and its result written
 unfoldable pub run_status : Job → Status
-run_status j = and_then (run_job j).status (check_result (run_job j).result)
+run_status j = and_then (status_of (run_job j)) (check_result (result_in (run_job j)))
 
 unfoldable pub run_text : Job → List ℕ
-run_text j = show_result (run_job j).result
+run_text j = show_result (result_in (run_job j))
 
 -- what a job's reader answers is run
-abbrev pub solved_status : JobRead → Status
+abbrev pub solved_status : Checked Job → Status
 solved_status r = and_then r.status (run_status r.job)
 
-abbrev pub solved_text : JobRead → List ℕ
+abbrev pub solved_text : Checked Job → List ℕ
 solved_text r = run_text r.job
 
 -- a job text is read, run and answered

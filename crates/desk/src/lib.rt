@@ -2,7 +2,6 @@
 #![tactic(auto)]
 
 ghost use Rattle.std.specs.Prelude.{◌≡◌};
-ghost use Rattle.faults.specs.declared.Status.{Status};
 ghost use Rattle.faults.specs.Answer.{Leaves};
 ghost use Rattle.checks.specs.Checks.{check_job};
 ghost use Rattle.desk.specs.Desk.{job_status, job_text, result_status, result_text};
@@ -45,7 +44,7 @@ pub fn rewrite_job(text: &[u8], out: &mut [u8]) -> Written
 
 // What a reader took needs no second check, and neither does what a run made of it.
 fn write_run(j: Job, out: &mut [u8]) -> Written
-    requires { check_job j ≡ Status.Done }
+    requires { check_job j ≡ Ok tt }
     ensures { Leaves (run_status j) (run_text j) out.old out.new result }
 {
     result_write::write_ready(run::accepted(j), out)

@@ -8,21 +8,20 @@ use lib.ListN.{length, get_or, get_or-append}
 use lib.Dec.{ltb}
 use lib.IntN.{ℤ, pos, negsuc, nat_abs}
 use borrow.Author.Tests.{le-ltb, ne_eqb}
-use Rattle.digits.specs.declared.Magnitude.{Magnitude}
-use Rattle.digits.specs.declared.Number.{Number}
 use Rattle.digits.specs.Bytes.{digit0, digit9, minus_sign}
 use Rattle.digits.specs.Number.{digits_max, digits_from, read_magnitude, with_minus, without_minus, read_number}
 use Rattle.digits.specs.Show.{show_magnitude, show_signed, show_number}
 use Rattle.digits.proofs.Cases.{either}
 use Rattle.digits.proofs.Show.{show-low, show-high, show-long, show-short, tenth-below}
+use Rattle.std.specs.Prelude.{Some, None, Option}
 
 -- what is read so far, and then ys
-after : Magnitude → List ℕ → Magnitude
-after (Magnitude.Is u) ys = digits_from u ys
-after Magnitude.Bad ys = Magnitude.Bad
+after : Option ℕ → List ℕ → Option ℕ
+after (Some u) ys = digits_from u ys
+after None ys = None
 
-after-cond : (t : Bool) (x : Magnitude) (ys : List ℕ)
-    → after (cond t Magnitude.Bad x) ys ≡ cond t Magnitude.Bad (after x ys)
+after-cond : (t : Bool) (x : Option ℕ) (ys : List ℕ)
+    → after (cond t None x) ys ≡ cond t None (after x ys)
 unfolding after
 after-cond true x ys = refl
 after-cond false x ys = refl
@@ -33,23 +32,23 @@ digits_append v [] ys = refl
 digits_append v (b ∷ xs) ys =
     rw (after-cond (ltb b digit0), after-cond (ltb digit9 b), digits_append (v * 10 + (b - digit0)) xs ys)
 
-digit-one : (v d : ℕ) → d < 10 → digits_from v ((digit0 + d) ∷ []) ≡ Magnitude.Is (v * 10 + d)
+digit-one : (v d : ℕ) → d < 10 → digits_from v ((digit0 + d) ∷ []) ≡ Some (v * 10 + d)
 unfolding digits_from
 digit-one v d h =
     let e : digit0 + d - digit0 ≡ d = omega arith in
     rw (le-ltb (digit0 + d) digit0 (omega arith), le-ltb digit9 (digit0 + d) (omega arith), e)
 
-few : (k m : ℕ) → m < 10 → digits_from 0 (show_magnitude (suc k) m) ≡ Magnitude.Is m
-few k m q = rw (show-low k m q) (digit-one 0 m q ∙ ap Magnitude.Is (omega arith))
+few : (k m : ℕ) → m < 10 → digits_from 0 (show_magnitude (suc k) m) ≡ Some m
+few k m q = rw (show-low k m q) (digit-one 0 m q ∙ ap Some (omega arith))
 
-more : (k m : ℕ) → digits_from 0 (show_magnitude k (m / 10)) ≡ Magnitude.Is (m / 10) → 10 ≤ m
-    → digits_from 0 (show_magnitude (suc k) m) ≡ Magnitude.Is m
+more : (k m : ℕ) → digits_from 0 (show_magnitude k (m / 10)) ≡ Some (m / 10) → 10 ≤ m
+    → digits_from 0 (show_magnitude (suc k) m) ≡ Some m
 unfolding after
 more k m ih q =
     rw (show-high k m q, digits_append 0 (show_magnitude k (m / 10)), ih)
-    (digit-one (m / 10) (m % 10) (omega arith) ∙ ap Magnitude.Is (omega arith))
+    (digit-one (m / 10) (m % 10) (omega arith) ∙ ap Some (omega arith))
 
-pub digits-back : (k m : ℕ) → m < 10 ^ suc k → digits_from 0 (show_magnitude (suc k) m) ≡ Magnitude.Is m
+pub digits-back : (k m : ℕ) → m < 10 ^ suc k → digits_from 0 (show_magnitude (suc k) m) ≡ Some m
 digits-back zero m h = few zero m (omega arith)
 digits-back (suc k) m h =
     either m 10 (few (suc k) m) (more (suc k) m (digits-back k (m / 10) (tenth-below (suc k) m h)))
@@ -67,7 +66,7 @@ first (suc k) m h =
     rw (show-high (suc k) m p, get_or-append (show_magnitude (suc k) (m / 10)) ((digit0 + m % 10) ∷ []) 0 0 l)
     (ih.0, λ q. ih.1 (omega arith)))
 
-pub magnitude-back : (m : ℕ) → m < 10 ^ digits_max → read_magnitude (show_magnitude digits_max m) ≡ Magnitude.Is m
+pub magnitude-back : (m : ℕ) → m < 10 ^ digits_max → read_magnitude (show_magnitude digits_max m) ≡ Some m
 unfolding read_magnitude
 magnitude-back m h =
     let t = show_magnitude digits_max m in
@@ -83,7 +82,7 @@ magnitude-back m h =
     )
     (digits-back 8 m h))
 
-pub number-back : (v : ℤ) → nat_abs v < 10 ^ digits_max → read_number (show_number v) ≡ Number.Is v
+pub number-back : (v : ℤ) → nat_abs v < 10 ^ digits_max → read_number (show_number v) ≡ Some v
 unfolding read_number show_signed without_minus with_minus
 number-back (pos m) h =
     let t = show_magnitude digits_max m in

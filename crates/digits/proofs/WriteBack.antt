@@ -7,23 +7,22 @@ use mathlib.Core.List.{List, [], ◌∷◌, ◌++◌, append_assoc, append-nil}
 use lib.ListN.{length}
 use lib.IntN.{ℤ, pos, negsuc}
 use borrow.Author.Tests.{lt-ltb, le-ltb, eq-eqb, ne_eqb}
-use Rattle.digits.specs.declared.Magnitude.{Magnitude}
-use Rattle.digits.specs.declared.Number.{Number}
 use Rattle.digits.specs.Bytes.{digit0, digit9, minus_sign}
 use Rattle.digits.specs.Number.{digits_max, digits_from, read_magnitude, with_minus, without_minus, read_number}
 use Rattle.digits.specs.Show.{show_magnitude, show_signed, show_number}
 use Rattle.digits.proofs.Cases.{either, same_or}
 use Rattle.digits.proofs.Show.{show-low, show-high}
+use Rattle.std.specs.Prelude.{Some, None, Option}
 
-bad-is : {A : Type 0} (m : ℕ) → Magnitude.Bad ≡ Magnitude.Is m → A
+bad-is : {A : Type 0} (m : ℕ) → None ≡ Some m → A
 bad-is m e = absurd (let z : ◌≡◌ {A = ℕ} 0 1 = cc in omega arith)
 
-is-inj : (a b : ℕ) → Magnitude.Is a ≡ Magnitude.Is b → a ≡ b
+is-inj : (a b : ℕ) → Some a ≡ Some b → a ≡ b
 is-inj a b e = cc
 
 -- what passes the two tests is a digit, and the reading goes on
-digit-is : (v m b : ℕ) (bs : List ℕ) → digits_from v (b ∷ bs) ≡ Magnitude.Is m
-    → (digit0 ≤ b) × (b ≤ digit9) × (digits_from (v * 10 + (b - digit0)) bs ≡ Magnitude.Is m)
+digit-is : (v m b : ℕ) (bs : List ℕ) → digits_from v (b ∷ bs) ≡ Some m
+    → (digit0 ≤ b) × (b ≤ digit9) × (digits_from (v * 10 + (b - digit0)) bs ≡ Some m)
 unfolding digits_from
 digit-is v m b bs e =
     either b digit0
@@ -34,7 +33,7 @@ digit-is v m b bs e =
     (λ q. (p, q, rw (le-ltb b digit0 p, le-ltb digit9 b q) at e)))
 
 -- the digits ds after the number v, of which j digits are shown
-show-after : (j v m : ℕ) (ds : List ℕ) → 1 ≤ v → digits_from v ds ≡ Magnitude.Is m
+show-after : (j v m : ℕ) (ds : List ℕ) → 1 ≤ v → digits_from v ds ≡ Some m
     → show_magnitude (length ds + j) m ≡ show_magnitude j v ++ ds
 unfolding digits_from
 show-after j v m [] p e = rw (is-inj v m e, zero-add) (sym (append-nil (show_magnitude j m)))
@@ -53,7 +52,7 @@ no_more (b ∷ bs) h = absurd (omega arith)
 
 -- digits that begin with no 0
 lead : (m b : ℕ) (bs : List ℕ) → suc (length bs) ≤ digits_max → (b ≡ digit0 → ⊥)
-    → digits_from 0 (b ∷ bs) ≡ Magnitude.Is m
+    → digits_from 0 (b ∷ bs) ≡ Some m
     → show_magnitude digits_max m ≡ b ∷ bs
 lead m b bs h n e =
     let d = digit-is 0 m b bs e in
@@ -63,7 +62,7 @@ lead m b bs h n e =
     let g : digit0 + v ≡ b = omega arith in
     rw (← f) (show-after (suc j) v m bs (omega arith) d.2 ∙ rw (show-low j v (omega arith), g))
 
-magnitude-was : (ds : List ℕ) (m : ℕ) → read_magnitude ds ≡ Magnitude.Is m → show_magnitude digits_max m ≡ ds
+magnitude-was : (ds : List ℕ) (m : ℕ) → read_magnitude ds ≡ Some m → show_magnitude digits_max m ≡ ds
 unfolding read_magnitude
 magnitude-was [] m e = bad-is m e
 magnitude-was (b ∷ bs) m e =
@@ -81,28 +80,28 @@ magnitude-was (b ∷ bs) m e =
     rw (← z, q, no_more bs (omega arith)) (show-low 8 0 (omega arith))))
     (λ q. lead m b bs p q (rw (some, le-ltb digits_max n p, ne_eqb b digit0 q) at e)))
 
-none_is : {A : Type 0} (v : ℤ) → Number.Bad ≡ Number.Is v → A
+none_is : {A : Type 0} (v : ℤ) → None ≡ Some v → A
 none_is v e = absurd (let z : ◌≡◌ {A = ℕ} 0 1 = cc in omega arith)
 
-number-inj : (a b : ℤ) → Number.Is a ≡ Number.Is b → a ≡ b
+number-inj : (a b : ℤ) → Some a ≡ Some b → a ≡ b
 number-inj a b e = cc
 
-minus-was : (bs : List ℕ) (v : ℤ) (x : Magnitude)
-    → read_magnitude bs ≡ x → with_minus x ≡ Number.Is v → show_number v ≡ minus_sign ∷ bs
+minus-was : (bs : List ℕ) (v : ℤ) (x : Option ℕ)
+    → read_magnitude bs ≡ x → with_minus x ≡ Some v → show_number v ≡ minus_sign ∷ bs
 unfolding with_minus show_signed
-minus-was bs v Magnitude.Bad e f = none_is v f
-minus-was bs v (Magnitude.Is zero) e f = none_is v f
-minus-was bs v (Magnitude.Is (suc m)) e f =
+minus-was bs v None e f = none_is v f
+minus-was bs v (Some zero) e f = none_is v f
+minus-was bs v (Some (suc m)) e f =
     rw (← number-inj (negsuc m) v (rw (ne_eqb (suc m) 0 (omega arith)) at f))
     (ap (λ (l : List ℕ). minus_sign ∷ l) (magnitude-was bs (suc m) e))
 
-plain-was : (bs : List ℕ) (v : ℤ) (x : Magnitude)
-    → read_magnitude bs ≡ x → without_minus x ≡ Number.Is v → show_number v ≡ bs
+plain-was : (bs : List ℕ) (v : ℤ) (x : Option ℕ)
+    → read_magnitude bs ≡ x → without_minus x ≡ Some v → show_number v ≡ bs
 unfolding without_minus show_signed
-plain-was bs v Magnitude.Bad e f = none_is v f
-plain-was bs v (Magnitude.Is m) e f = rw (← number-inj (pos m) v f) (magnitude-was bs m e)
+plain-was bs v None e f = none_is v f
+plain-was bs v (Some m) e f = rw (← number-inj (pos m) v f) (magnitude-was bs m e)
 
-pub number-was : (f : List ℕ) (v : ℤ) → read_number f ≡ Number.Is v → show_number v ≡ f
+pub number-was : (f : List ℕ) (v : ℤ) → read_number f ≡ Some v → show_number v ≡ f
 unfolding read_number
 number-was [] v e = none_is v e
 number-was (b ∷ bs) v e =

@@ -9,7 +9,7 @@ use borrow.Author.Tests.{le-ltb}
 use Rattle.sizes.specs.Sizes.{text_max}
 use Rattle.faults.specs.Checks.{and_then}
 use Rattle.faults.specs.Answer.{answer_of}
-use Rattle.faults.specs.declared.Status.{Status}
+use Rattle.faults.specs.Checked.{Status, status_of}
 use Rattle.faults.proofs.Laws.{both-done}
 use Rattle.checks.proofs.CheckResultLaws.{sound}
 use Rattle.job_form.specs.JobForm.{read_job}
@@ -22,64 +22,65 @@ use Rattle.desk.specs.Desk.{job_status, job_text, result_status, result_text, ru
 use Rattle.desk.specs.Desk.{solve_text}
 use Rattle.runs.proofs.Results.{run-done, run-checked}
 use Rattle.promises.proofs.Results.{run_short}
+use Rattle.std.specs.Prelude.{Ok, Err}
 
 -- what follows a reading without a fault has none
-first-only : (st next : Status) → (st ≡ Status.Done → next ≡ Status.Done) → and_then st next ≡ st
+first-only : (st next : Status) → (st ≡ Ok tt → next ≡ Ok tt) → and_then st next ≡ st
 unfolding and_then
-first-only Status.Done next h = h refl
-first-only (Status.Refused f line) next h = refl
+first-only (Ok tt) next h = h refl
+first-only (Err r) next h = refl
 
 -- "the written text is longer than the lent buffer": else a writer's status is that of the values
-long-enough : (st : Status) (t old : List ℕ) → (st ≡ Status.Done → length t ≤ length old)
+long-enough : (st : Status) (t old : List ℕ) → (st ≡ Ok tt → length t ≤ length old)
     → (answer_of st old t).status ≡ st
 unfolding answer_of
-long-enough Status.Done t old h = rw (le-ltb (length old) (length t) (h refl)) refl
-long-enough (Status.Refused f line) t old h = refl
+long-enough (Ok tt) t old h = rw (le-ltb (length old) (length t) (h refl)) refl
+long-enough (Err r) t old h = refl
 
 module _ (t : List ℕ) where
-  pub job-status : job_status t ≡ (read_job t).status
+  pub job-status : job_status t ≡ (status_of (read_job t))
   unfolding job_status
-  job-status = first-only (read_job t).status _ (job.read-checked t)
+  job-status = first-only (status_of (read_job t)) _ (job.read-checked t)
 
-  pub job-same : (read_job t).status ≡ Status.Done → job_text t ≡ t
+  pub job-same : status_of (read_job t) ≡ Ok tt → job_text t ≡ t
   unfolding job_text
   job-same = job.read_same t
 
-  job-short : (read_job t).status ≡ Status.Done → length (job_text t) ≤ text_max
+  job-short : status_of (read_job t) ≡ Ok tt → length (job_text t) ≤ text_max
   unfolding job_text
-  job-short e = job-trips.job-short (read_job t).job (job.read-checked t e)
+  job-short e = job-trips.job-short (job_in (read_job t)) (job.read-checked t e)
 
-  pub result-status : result_status t ≡ (read_result t).status
+  pub result-status : result_status t ≡ (status_of (read_result t))
   unfolding result_status
-  result-status = first-only (read_result t).status _ (result.read-checked t)
+  result-status = first-only (status_of (read_result t)) _ (result.read-checked t)
 
-  pub result-same : (read_result t).status ≡ Status.Done → result_text t ≡ t
+  pub result-same : status_of (read_result t) ≡ Ok tt → result_text t ≡ t
   unfolding result_text
   result-same = result.read_same t
 
-  result-short : (read_result t).status ≡ Status.Done → length (result_text t) ≤ text_max
+  result-short : status_of (read_result t) ≡ Ok tt → length (result_text t) ≤ text_max
   unfolding result_text
   result-short e =
-      result-trips.result-short (read_result t).result (sound (read_result t).result (result.read-checked t e)).few
+      result-trips.result-short (result_in (read_result t)) (sound (result_in (read_result t)) (result.read-checked t e)).few
 
-  pub solve-status : solve_status t ≡ (read_job t).status
+  pub solve-status : solve_status t ≡ (status_of (read_job t))
   unfolding solve_status run_status
   solve-status =
-      first-only (read_job t).status _
+      first-only (status_of (read_job t)) _
       (λ e. let checked = job.read-checked t e in
-      both-done (run-done (read_job t).job checked) (run-checked (read_job t).job checked))
+      both-done (run-done (job_in (read_job t)) checked) (run-checked (job_in (read_job t)) checked))
 
-  solve-short : (read_job t).status ≡ Status.Done → length (solve_text t) ≤ text_max
+  solve-short : status_of (read_job t) ≡ Ok tt → length (solve_text t) ≤ text_max
   unfolding solve_text run_text
-  solve-short e = run_short (read_job t).job (job.read-checked t e)
+  solve-short e = run_short (job_in (read_job t)) (job.read-checked t e)
 
   -- a buffer of as many bytes as a text may have is never too short
   module _ (old : List ℕ) (room : text_max ≤ length old) where
-    pub job-fits : (answer_of (job_status t) old (job_text t)).status ≡ (read_job t).status
+    pub job-fits : (answer_of (job_status t) old (job_text t)).status ≡ (status_of (read_job t))
     job-fits = rw job-status (long-enough _ _ old (λ e. le_trans (job-short e) room))
 
-    pub result_fits : (answer_of (result_status t) old (result_text t)).status ≡ (read_result t).status
+    pub result_fits : (answer_of (result_status t) old (result_text t)).status ≡ (status_of (read_result t))
     result_fits = rw result-status (long-enough _ _ old (λ e. le_trans (result-short e) room))
 
-    pub solve-fits : (answer_of (solve_status t) old (solve_text t)).status ≡ (read_job t).status
+    pub solve-fits : (answer_of (solve_status t) old (solve_text t)).status ≡ (status_of (read_job t))
     solve-fits = rw solve-status (long-enough _ _ old (λ e. le_trans (solve-short e) room))

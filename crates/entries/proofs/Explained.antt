@@ -6,14 +6,14 @@ use mathlib.Core.List.{List, ◌++◌}
 use lib.ListN.{length, drop}
 use lib.Seq.{sets-eq}
 use Rattle.faults.specs.declared.Fault.{Fault}
-use Rattle.faults.specs.declared.Finding.{Finding}
-use Rattle.faults.specs.declared.Status.{Status}
+use Rattle.faults.specs.Checked.{Finding, Status}
 use Rattle.faults.specs.Words.{fault_number}
 use Rattle.slips.specs.Slips.{found_in}
 use Rattle.phrases.specs.Says.{sentence_max}
 use Rattle.sentences.specs.Sentences.{slip_words, Explains}
 use Rattle.sentences.proofs.Told.{slip-some, slip-none}
 use Rattle.entries.specs.Numbers.{told}
+use Rattle.std.specs.Prelude.{Ok, Err}
 
 -- a fault has a number
 pub number-some : (f : Fault) → 0 < fault_number f
@@ -33,15 +33,15 @@ number-some Fault.Table = omega arith
 
 module _ {old new : List ℕ} {r : ℕ} where
   pub no-fault : (st : Status) → Explains (found_in st) old new r → (told st).number ≡ 0 → (r ≡ 0) × (new ≡ old)
-  no-fault Status.Done e h =
+  no-fault (Ok tt) e h =
       let none = slip-none e.slip e.fault in
       let words = rw none at e.words in
       (words.next, words.text)
-  no-fault (Status.Refused f line) e h = absurd (omega (arith, number-some f, h))
+  no-fault (Err r) e h = absurd (omega (arith, number-some r.fault, h))
 
   pub a-fault : (st : Status) → Explains (found_in st) old new r → 0 < (told st).number → 0 < r
-  a-fault Status.Done e h = absurd (omega arith)
-  a-fault (Status.Refused f line) e h = omega (arith, e.words.next, slip-some e.slip e.fault)
+  a-fault (Ok tt) e h = absurd (omega arith)
+  a-fault (Err r) e h = omega (arith, e.words.next, slip-some e.slip e.fault)
 
   pub whole : {found : Finding} (e : Explains found old new r) → sentence_max ≤ length old
       → new ≡ slip_words e.slip ++ drop r old

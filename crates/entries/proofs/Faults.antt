@@ -16,9 +16,8 @@ use Rattle.faults.specs.declared.Fault.{Fault}
 use Rattle.jobs.specs.declared.Kind.{Kind}
 use Rattle.jobs.specs.declared.Job.{Job}
 use Rattle.jobs.specs.declared.Result.{Result}
-use Rattle.faults.specs.declared.Status.{Status}
+use Rattle.faults.specs.Checked.{Status, Written, status_of, Checked}
 use Rattle.faults.specs.Answer.{refused, answer_of, Leaves}
-use Rattle.faults.specs.declared.Written.{Written}
 use Rattle.step.proofs.Decisions.{zero_one}
 use Rattle.run.specs.Job.{answer_by, run_job}
 use Rattle.entries.specs.Numbers.{Told, told, tell, or_else, short_buffer, Row, first_given, each_line}
@@ -31,11 +30,12 @@ use Rattle.jobs.specs.declared.Ends.{Ends}
 use Rattle.entries.specs.Numbers.{image_rows, decide_rows, halve_rows}
 use Rattle.entries.proofs.Explained.{number-some}
 use Rattle.entries.proofs.Rows.{Tells, before, job-tells, result-tells, image-tells, decide-tells, halve-tells}
+use Rattle.std.specs.Prelude.{Ok, Err}
 
 -- ---- values
 before-none : (st : Status) → before st (tell 0 0) ≡ told st
-before-none Status.Done = refl
-before-none (Status.Refused f line) = refl
+before-none (Ok tt) = refl
+before-none (Err r) = refl
 
 first-told : {rows : List Row} {st : Status} → Tells rows st → told st ≡ first_given rows
 first-told {rows} {st} h = sym (ap first_given (sym (append-nil rows)) ∙ h.all [] ∙ before-none st)
@@ -46,10 +46,10 @@ job-first j = first-told (job-tells j)
 pub result-first : (r : Result) → told (check_result r) ≡ first_given (result_rows r)
 result-first r = first-told (result-tells r)
 
-pub image-first : (j : Job) (x : Ends) → told (gives_image j x).status ≡ first_given (image_rows j x)
+pub image-first : (j : Job) (x : Ends) → told (status_of (gives_image j x)) ≡ first_given (image_rows j x)
 image-first j x = ap told (image-status j x) ∙ first-told (image-tells j x)
 
-pub decide-first : (n : ℕ) (x k : Ends) → told (gives_move n x k).status ≡ first_given (decide_rows n x k)
+pub decide-first : (n : ℕ) (x k : Ends) → told (status_of (gives_move n x k)) ≡ first_given (decide_rows n x k)
 decide-first n x k = ap told (decide-status n x k) ∙ first-told (decide-tells n x k)
 
 pub halve-first : (j : Job) (depth : ℤ) (room : ℕ)
@@ -105,13 +105,13 @@ job-values j n =
 pub result-values : (r : Result) → number_of (check_result r) ≡ 7 → ⊥
 result-values r n = without-first (result_rows r) refl (sym (ap (λ (x : Told). x.number) (result-first r)) ∙ n)
 
-pub run-status : (j : Job) → (run_job j).status ≡ check_job j
+pub run-status : (j : Job) → status_of (run_job j) ≡ check_job j
 unfolding run_job
 run-status j = by (check_job j)
   where
     by : (st : Status) → (answer_by st j).status ≡ st
-    by Status.Done = refl
-    by (Status.Refused f line) = refl
+    by (Ok tt) = refl
+    by (Err r) = refl
 
 -- ---- a lent buffer
 numbered : (f : Fault) → fault_number f ≡ 0 → ⊥
@@ -121,28 +121,28 @@ numbered f e = omega (arith, number-some f)
 written-told : (st : Status) (old t : List ℕ) → told (answer_of st old t).status
     ≡ or_else (told st) (short_buffer old t)
 unfolding answer_of
-written-told Status.Done old t = by (ltb (length old) (length t))
+written-told (Ok tt) old t = by (ltb (length old) (length t))
   where
-    short : Written
-    short = refused (Status.Refused Fault.ShortBuffer 0)
+    short : Checked ℕ
+    short = refused (refused Fault.ShortBuffer 0)
 
-    by : (b : Bool) → told (cond b short (record { status = Status.Done; len = length t })).status
+    by : (b : Bool) → told (cond b short (Ok (length t))).status
         ≡ cond b (tell 7 0) (tell 0 0)
     by true = refl
     by false = refl
-written-told (Status.Refused f line) old t = rw (ne_eqb (fault_number f) 0 (numbered f)) refl
+written-told (Err r) old t = rw (ne_eqb (fault_number r.fault) 0 (numbered r.fault)) refl
 
 seven : (st : Status) (old t : List ℕ) → (number_of st ≡ 7 → ⊥)
     → ((or_else (told st) (short_buffer old t)).number ≡ 7) ↔ ((number_of st ≡ 0) × (length old < length t))
-seven Status.Done old t other =
+seven (Ok tt) old t other =
     (by (ltb (length old) (length t)) refl, λ h. rw (lt-ltb (length old) (length t) h.1) refl)
   where
     by : (b : Bool) → ltb (length old) (length t) ≡ b → (cond b (tell 7 0) (tell 0 0)).number ≡ 7
         → (◌≡◌ {A = ℕ} 0 0) × (length old < length t)
     by true e n = (refl, ltb-true (length old) (length t) e)
     by false e n = absurd (zero_one (omega arith))
-seven (Status.Refused f line) old t other =
-    (λ n. absurd (other (rw (ne_eqb (fault_number f) 0 (numbered f)) at n)), λ h. absurd (numbered f h.0))
+seven (Err r) old t other =
+    (λ n. absurd (other (rw (ne_eqb (fault_number r.fault) 0 (numbered r.fault)) at n)), λ h. absurd (numbered r.fault h.0))
 
 -- an answer that the contract of a writer allows
 module _ {st : Status} {t old new : List ℕ} {a : Written} (leaves : Leaves st t old new a) where

@@ -9,7 +9,7 @@ use Rattle.sizes.specs.Sizes.{text_max}
 use Rattle.digits.specs.Bytes.{line_feed}
 use Rattle.text.specs.Cut.{feeds, pieces, rest}
 use Rattle.faults.specs.declared.Fault.{Fault}
-use Rattle.faults.specs.declared.Status.{Status}
+use Rattle.faults.specs.Checked.{refused}
 use Rattle.faults.specs.Checks.{is_bad}
 use Rattle.reading.specs.Lines.{step, begin, opened, more, closed, ended, read, joined_parts}
 use Rattle.job_form.specs.JobForm.{job_form_of, read_job, refused_with}
@@ -19,6 +19,7 @@ use Rattle.job_parts.specs.declared.Taken.{Taken}
 use Rattle.job_parts.specs.Limits.{size_max, fits}
 use Rattle.job_parts.specs.Parts.{part_taken, beyond_limits, end_of, given}
 use Rattle.job_parts.proofs.Whole.{text-fits, text-whole, given-all, size-counted, held-line, read-lines}
+use Rattle.std.specs.Prelude.{Ok}
 
 module _ (ps : List (List ℕ)) where
   pub given-fits : fits (given ps) ≡ true
@@ -27,7 +28,7 @@ module _ (ps : List (List ℕ)) where
   pub given-end : end_of (given ps) ≡ read_job (joined_parts ps)
   given-end = ap end_of (given-all ps) ∙ text-whole (joined_parts ps)
 
-  pub given-done : (part : List ℕ) → (part_taken (given ps) part).status ≡ Status.Done
+  pub given-done : (part : List ℕ) → (part_taken (given ps) part).status ≡ Ok tt
   unfolding part_taken
   given-done part = rw given-fits
 
@@ -42,11 +43,11 @@ module _ (ps : List (List ℕ)) where
         (pieces line_feed (joined_parts ps))
     given-read = rw (given-all ps) (read-lines (joined_parts ps) few)
 
-nothing_read : read_job (joined_parts []) ≡ refused_with (Status.Refused Fault.Spelling 1)
+nothing_read : read_job (joined_parts []) ≡ refused Fault.Spelling 1
 unfolding joined_parts read_job read closed more opened feeds ended
 nothing_read = refl
 
-pub nothing-given : end_of (given []) ≡ refused_with (Status.Refused Fault.Spelling 1)
+pub nothing-given : end_of (given []) ≡ refused Fault.Spelling 1
 nothing-given = given-end [] ∙ nothing_read
 
 module _ (p : Parts) where
@@ -58,7 +59,7 @@ module _ (p : Parts) where
   unfolding end_of
   end_refused e = rw e
 
-  not-refused : (part : List ℕ) → fits p ≡ true → (part_taken p part).status ≡ Status.Done
+  not-refused : (part : List ℕ) → fits p ≡ true → (part_taken p part).status ≡ Ok tt
   unfolding part_taken
   not-refused part e = rw e
 

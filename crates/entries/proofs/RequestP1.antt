@@ -11,7 +11,7 @@ use Rattle.sizes.specs.Sizes.{text_max}
 use Rattle.digits.specs.Bytes.{line_feed}
 use Rattle.text.specs.Cut.{pieces, rest}
 use Rattle.faults.specs.declared.Fault.{Fault}
-use Rattle.faults.specs.declared.Status.{Status}
+use Rattle.faults.specs.Checked.{refused}
 use Rattle.reading.specs.Lines.{step, begin, joined_parts}
 use Rattle.job_form.specs.JobForm.{job_form_of, read_job, refused_with}
 use Rattle.next_line.specs.State.{state_of}
@@ -19,6 +19,7 @@ use Rattle.job_parts.specs.declared.Parts.{Parts}
 use Rattle.job_parts.specs.Limits.{size_max, fits}
 use Rattle.job_parts.specs.Parts.{part_taken, end_of, given}
 use Rattle.entries.proofs.InParts as parts
+use Rattle.std.specs.Prelude.{Ok}
 
 -- "a reader that takes a job's text in parts of any length, zero included, and answers only when told the text has
 -- ended. Its answer, fault number and line must be those of the whole text read at once,"
@@ -30,7 +31,7 @@ pub any-cuts : (ps qs : List (List ℕ)) → joined_parts ps ≡ joined_parts qs
 any-cuts ps qs e = whole-text ps ∙ ap read_job e ∙ sym (whole-text qs)
 
 -- no part at all: the empty text, whose first line is missing
-pub no_part : end_of (given []) ≡ refused_with (Status.Refused Fault.Spelling 1)
+pub no_part : end_of (given []) ≡ refused Fault.Spelling 1
 no_part = parts.nothing-given
 
 -- "It may hold only one line": the bytes behind the last line feed,
@@ -48,19 +49,19 @@ pub counted : (ps : List (List ℕ)) → (given ps).size ≡ min (length (joined
 counted = parts.given_counted
 
 -- every state that is reached passes the check, so that no part of an honest text is refused
-pub never-refused : (ps : List (List ℕ)) (part : List ℕ) → (part_taken (given ps) part).status ≡ Status.Done
+pub never-refused : (ps : List (List ℕ)) (part : List ℕ) → (part_taken (given ps) part).status ≡ Ok tt
 never-refused = parts.given-done
 
 -- 4, line 0, exactly where a count, a length or a line number is beyond its limits; the state is handed back as it was,
 module _ (p : Parts) where
-  pub refused-exactly : (part : List ℕ) → ((part_taken p part).status ≡ Status.Refused Fault.Beyond 0) ↔
+  pub refused-exactly : (part : List ℕ) → ((part_taken p part).status ≡ refused Fault.Beyond 0) ↔
       (fits p ≡ false)
   refused-exactly = parts.beyond-exactly p
 
   pub handed-back : (part : List ℕ) → fits p ≡ false
-      → part_taken p part ≡ record { status = Status.Refused Fault.Beyond 0; parts = p }
+      → part_taken p part ≡ record { status = refused Fault.Beyond 0; parts = p }
   handed-back = parts.handed-back p
 
   -- and so is the end
-  pub end_refused : fits p ≡ false → end_of p ≡ refused_with (Status.Refused Fault.Beyond 0)
+  pub end_refused : fits p ≡ false → end_of p ≡ refused Fault.Beyond 0
   end_refused = parts.end_refused p

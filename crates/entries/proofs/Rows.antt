@@ -25,14 +25,15 @@ use Rattle.jobs.specs.declared.Kind.{Kind}
 use Rattle.jobs.specs.declared.Ends.{Ends}
 use Rattle.jobs.specs.declared.Job.{Job}
 use Rattle.jobs.specs.declared.Result.{Result}
-use Rattle.faults.specs.declared.Status.{Status}
+use Rattle.faults.specs.Checked.{Status}
 use Rattle.entries.specs.Numbers.{Told, told, Row, first_given, each_line, system_rows, job_rows, result_rows}
 use Rattle.entries.specs.Numbers.{pin_rows, box_rows, ends_rows, image_rows, decide_rows, halve_rows}
+use Rattle.std.specs.Prelude.{Ok, Err}
 
 -- what a status tells before the rest
 abbrev pub before : Status → Told → Told
-before Status.Done rest = rest
-before (Status.Refused f line) rest = told (Status.Refused f line)
+before (Ok tt) rest = rest
+before (Err r) rest = told (Err r)
 
 -- the rows tell of the status st, whatever rows come after them
 pub record Tells (rows : List Row) (st : Status) : Type 0 where
@@ -41,7 +42,7 @@ pub record Tells (rows : List Row) (st : Status) : Type 0 where
 abbrev at : ℕ → Fault → Bool → Row
 at line f given = record { line = line; number = fault_number f; given = given }
 
-tell_none : Tells [] Status.Done
+tell_none : Tells [] (Ok tt)
 tell_none = record { all = λ rest. refl }
 
 -- one row more in front
@@ -63,8 +64,8 @@ tell-both {xs} {ys} {s} {t} h g =
     record { all = λ rest. rw (append_assoc xs ys rest) (h.all (ys ++ rest) ∙ by s rest) }
   where
     by : (s : Status) (rest : List Row) → before s (first_given (ys ++ rest)) ≡ before (and_then s t) (first_given rest)
-    by Status.Done rest = g.all rest
-    by (Status.Refused f line) rest = refl
+    by (Ok tt) rest = g.all rest
+    by (Err r) rest = refl
 
 tell-lines : (n : ℕ) (f : ℕ → List Row) (g : ℕ → Status) → ((i : ℕ) → Tells (f i) (g i))
     → Tells (each_line n f) (lines_of n g)

@@ -10,7 +10,7 @@ use Rattle.faults.specs.Words.{number_of, line_of}
 use Rattle.faults.specs.declared.Fault.{Fault}
 use Rattle.digits.proofs.Cases.{either}
 use Rattle.text.specs.Cut.{feeds}
-use Rattle.reading.specs.Got.{Blamed}
+use Rattle.reading.specs.Results.{Blamed}
 use Rattle.reading.specs.Lines.{Form, Answer, opened, more, ended, closed, read}
 use Rattle.reading.specs.Refused.{Refused}
 use Rattle.reading.proofs.Goes.{read-long}
@@ -81,16 +81,16 @@ of-job : Faults job_form_of
 of-job = record { long = refl; odd = spelling; says = job-says; counted = job.line-number }
 
 module _ (t : List ℕ) where
-  pub job-long : ((told (read_job t).status).number ≡ 1) ↔ (text_max < length t)
+  pub job-long : ((told (status_of (read_job t))).number ≡ 1) ↔ (text_max < length t)
   job-long = rw (job.read-status t) (long-exactly job_form_of of-job t)
 
-  pub job-long-told : text_max < length t → told (read_job t).status ≡ tell 1 0
+  pub job-long-told : text_max < length t → told (status_of (read_job t)) ≡ tell 1 0
   job-long-told = rw (job.read-status t) (long-told job_form_of of-job t)
 
-  pub job-not-seven : number_of (read_job t).status ≡ 7 → ⊥
+  pub job-not-seven : number_of (status_of (read_job t)) ≡ 7 → ⊥
   job-not-seven = rw (job.read-status t) (not-seven job_form_of of-job t)
 
-  pub job-line : 1 < (told (read_job t).status).number → 1 ≤ (told (read_job t).status).line
+  pub job-line : 1 < (told (status_of (read_job t))).number → 1 ≤ (told (status_of (read_job t))).line
   job-line = rw (job.read-status t) (line-from-one job_form_of of-job t)
 
 pub job-empty : told (read_job []).status ≡ tell 2 1
@@ -103,16 +103,16 @@ of-result : Faults result_form_of
 of-result = record { long = refl; odd = spelling; says = result_says_lem; counted = result.line-number }
 
 module _ (t : List ℕ) where
-  pub result-long : ((told (read_result t).status).number ≡ 1) ↔ (text_max < length t)
+  pub result-long : ((told (status_of (read_result t))).number ≡ 1) ↔ (text_max < length t)
   result-long = rw (result.read-status t) (long-exactly result_form_of of-result t)
 
-  pub result-long-told : text_max < length t → told (read_result t).status ≡ tell 1 0
+  pub result-long-told : text_max < length t → told (status_of (read_result t)) ≡ tell 1 0
   result-long-told = rw (result.read-status t) (long-told result_form_of of-result t)
 
-  pub result-not-seven : number_of (read_result t).status ≡ 7 → ⊥
+  pub result-not-seven : number_of (status_of (read_result t)) ≡ 7 → ⊥
   result-not-seven = rw (result.read-status t) (not-seven result_form_of of-result t)
 
-  pub result-line : 1 < (told (read_result t).status).number → 1 ≤ (told (read_result t).status).line
+  pub result-line : 1 < (told (status_of (read_result t))).number → 1 ≤ (told (status_of (read_result t))).line
   result-line = rw (result.read-status t) (line-from-one result_form_of of-result t)
 
 pub result-empty : told (read_result []).status ≡ tell 2 1

@@ -18,7 +18,7 @@ use Rattle.halving.specs.Lists.{listed_places}
 use Rattle.halving.specs.Halving.{depth_in}
 use Rattle.job_parts.specs.declared.Parts.{Parts}
 use Rattle.job_parts.specs.Limits.{fits}
-use Rattle.faults.specs.declared.Status.{Status}
+use Rattle.faults.specs.Checked.{Status}
 
 -- "A fault returns its number and a line": 0 and 0 where there is none
 pub record Told : Type 0 where

@@ -1,6 +1,6 @@
 -- Document 01, "Marked examples T1 to T12": "T1 to T12 are proved as a single table under a single claim." Beside it
 -- the examples of document 02's requests.
-use Rattle.std.specs.Prelude.{◌≡◌, List, [], ◌∷◌, ℕ, ℤ, pos}
+use Rattle.std.specs.Prelude.{◌≡◌, List, [], ◌∷◌, ℕ, ℤ, pos, Ok}
 use Rattle.intervals.specs.declared.Interval.{Interval}
 use Rattle.intervals.specs.Interval.{point_i, zero_i, mul_i, mid_i}
 use Rattle.intervals.specs.Places.{number_at, side_at}
@@ -13,7 +13,6 @@ use Rattle.step.specs.Values.{inverse_of, start_of}
 use Rattle.run.specs.Run.{outcome}
 use Rattle.run.specs.Job.{result_of, run_job}
 use Rattle.jobs.specs.declared.Job.{Job}
-use Rattle.faults.specs.declared.Status.{Status}
 use Rattle.jobs.specs.declared.Verdict.{Verdict}
 use Rattle.run.specs.declared.Answer.{Answer}
 use Rattle.examples.specs.Jobs.{minus, job41, job7, job9, job11, job12, job304}
@@ -44,7 +43,7 @@ squared a r = record { computed = Thing.interval (power_i 2 a); told = Thing.int
 abbrev runs : Job → Verdict → ℕ → List Interval → Example
 runs j v steps x = record {
   computed = Thing.answer (run_job j);
-  told = Thing.answer (record { status = Status.Done; result = result_of j (outcome v steps x) });
+  told = Thing.answer (Ok (result_of j (outcome v steps x)));
 }
 
 -- K of a job of one unknown

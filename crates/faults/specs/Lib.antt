@@ -1,3 +1,4 @@
 pub mod Words
+pub mod Checked
 pub mod Checks
 pub mod Answer

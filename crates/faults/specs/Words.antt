@@ -1,7 +1,7 @@
 -- The documents' numbers for the cases of the values' enums.
-use Rattle.std.specs.Prelude.{ℕ, cond, eqb}
+use Rattle.std.specs.Prelude.{ℕ, cond, eqb, Ok, Err}
 use Rattle.faults.specs.declared.Fault.{Fault}
-use Rattle.faults.specs.declared.Status.{Status}
+use Rattle.faults.specs.Checked.{Checked}
 
 -- document 01's table of "Fault numbers", and what document 02 adds to it
 abbrev pub fault_number : Fault → ℕ
@@ -40,10 +40,10 @@ fault_of k =
     (cond (eqb k 15) Fault.NotOpen Fault.Table)))))))))))
 
 -- "A fault returns its number and a line": 0 and 0 where there is none
-abbrev pub number_of : Status → ℕ
-number_of Status.Done = 0
-number_of (Status.Refused f line) = fault_number f
+abbrev pub number_of : {A : Type 0} → Checked A → ℕ
+number_of (Ok x) = 0
+number_of (Err r) = fault_number r.fault
 
-abbrev pub line_of : Status → ℕ
-line_of Status.Done = 0
-line_of (Status.Refused f line) = line
+abbrev pub line_of : {A : Type 0} → Checked A → ℕ
+line_of (Ok x) = 0
+line_of (Err r) = r.line

@@ -1,12 +1,13 @@
-// The faults, the answer of a check, and the answer of a text's writer.
+// The faults, and what carries one: the check of a line, and what a public operation answers.
 #![tactic(auto)]
 
 ghost use Rattle.std.specs.Prelude.{◌≡◌};
 ghost use Rattle.faults.specs.Words.{fault_number, fault_of};
-ghost use Rattle.faults.specs.Checks.{is_bad, and_then, is_fine, bad_unless, first_of, on_line};
+ghost use Rattle.faults.specs.Checks.{bad_unless, on_line};
+ghost use Rattle.faults.specs.Checked.{refused};
 
 // The faults 1 to 8 of document 01's table, in its order, then those of document 02.
-#[derive(Clone, Copy)]
+#[derive(Clone, Copy, PartialEq, Eq)]
 pub enum Fault {
     LongText,
     Spelling,
@@ -26,118 +27,79 @@ pub enum Fault {
 // The last number of those that a text can have.
 pub const FAULTS: u64 = 9;
 
-// What the check of one line finds.
-#[derive(Clone, Copy)]
-pub enum Finding {
-    Fine,
-    Bad(Fault),
-}
-
 // A fault carries its line, counted from 1, or 0 where no line carries it.
-#[derive(Clone, Copy)]
-pub enum Status {
-    Done,
-    Refused(Fault, u64),
+#[derive(Clone, Copy, PartialEq, Eq)]
+pub struct Refusal {
+    pub fault: Fault,
+    pub line: u64,
 }
 
-// The answer of a text's writer: how many bytes were written, 0 beside a fault.
-#[derive(Clone, Copy)]
-pub struct Written {
-    pub status: Status,
-    pub len: usize,
-}
+// What a public operation answers: a value, or what refuses it.
+pub type Checked<T> = Result<T, Refusal>;
 
-pub fn fault_number(f: Fault) -> u64
-    ensures { result ≡ fault_number f }
-{
-    match f {
-        Fault::LongText => 1,
-        Fault::Spelling => 2,
-        Fault::Unknowns => 3,
-        Fault::Beyond => 4,
-        Fault::Crossed => 5,
-        Fault::Terms => 6,
-        Fault::ShortBuffer => 7,
-        Fault::Steps => 8,
-        Fault::Pin => 9,
-        Fault::Full => 13,
-        Fault::Visits => 14,
-        Fault::NotOpen => 15,
-        Fault::Table => 16,
+impl From<Fault> for u64 {
+    ghost from_gives = { λ f n. n ≡ fault_number f };
+
+    fn from(f: Fault) -> u64 {
+        match f {
+            Fault::LongText => 1,
+            Fault::Spelling => 2,
+            Fault::Unknowns => 3,
+            Fault::Beyond => 4,
+            Fault::Crossed => 5,
+            Fault::Terms => 6,
+            Fault::ShortBuffer => 7,
+            Fault::Steps => 8,
+            Fault::Pin => 9,
+            Fault::Full => 13,
+            Fault::Visits => 14,
+            Fault::NotOpen => 15,
+            Fault::Table => 16,
+        }
     }
 }
 
-// The fault of a number.
-pub fn fault_of(number: u64) -> Fault
-    ensures { result ≡ fault_of number }
-{
-    match number {
-        1 => Fault::LongText,
-        2 => Fault::Spelling,
-        3 => Fault::Unknowns,
-        4 => Fault::Beyond,
-        5 => Fault::Crossed,
-        6 => Fault::Terms,
-        7 => Fault::ShortBuffer,
-        8 => Fault::Steps,
-        9 => Fault::Pin,
-        13 => Fault::Full,
-        14 => Fault::Visits,
-        15 => Fault::NotOpen,
-        _ => Fault::Table,
+// The fault of a number; that of a table stands for every other.
+impl From<u64> for Fault {
+    ghost from_gives = { λ n f. f ≡ fault_of n };
+
+    fn from(number: u64) -> Fault {
+        match number {
+            1 => Fault::LongText,
+            2 => Fault::Spelling,
+            3 => Fault::Unknowns,
+            4 => Fault::Beyond,
+            5 => Fault::Crossed,
+            6 => Fault::Terms,
+            7 => Fault::ShortBuffer,
+            8 => Fault::Steps,
+            9 => Fault::Pin,
+            13 => Fault::Full,
+            14 => Fault::Visits,
+            15 => Fault::NotOpen,
+            _ => Fault::Table,
+        }
     }
 }
 
-pub fn is_bad(s: Status) -> bool
-    ensures { result ≡ is_bad s }
-{
-    match s {
-        Status::Done => false,
-        Status::Refused(_, _) => true,
-    }
-}
-
-pub fn and_then(first: Status, next: Status) -> Status
-    ensures { result ≡ and_then first next }
-{
-    match first {
-        Status::Done => next,
-        Status::Refused(fault, line) => Status::Refused(fault, line),
-    }
-}
-
-pub fn is_fine(f: Finding) -> bool
-    ensures { result ≡ is_fine f }
-{
-    match f {
-        Finding::Fine => true,
-        Finding::Bad(_) => false,
-    }
-}
-
-pub fn bad_unless(good: bool, fault: Fault) -> Finding
+#[tactic(auto, unfolding(crate::specs::Checks::bad_unless))]
+pub fn bad_unless(good: bool, fault: Fault) -> Result<(), Fault>
     ensures { result ≡ bad_unless good fault }
 {
-    if good {
-        return Finding::Fine;
-    }
-    Finding::Bad(fault)
+    if good { Ok(()) } else { Err(fault) }
 }
 
-pub fn first_of(first: Finding, next: Finding) -> Finding
-    ensures { result ≡ first_of first next }
+// Where no line carries it, the line is 0.
+pub fn refused<T>(fault: Fault, line: u64) -> Checked<T>
+    ensures { result ≡ refused fault line }
 {
-    match first {
-        Finding::Fine => next,
-        Finding::Bad(fault) => Finding::Bad(fault),
-    }
+    Err(Refusal { fault, line })
 }
 
-pub fn on_line(f: Finding, line: u64) -> Status
-    ensures { result ≡ on_line f line }
+// What a line says or finds, with its number.
+#[tactic(auto, unfolding(crate::specs::Checks::on_line))]
+pub fn on_line<T>(found: Result<T, Fault>, line: u64) -> Checked<T>
+    ensures { result ≡ on_line found line }
 {
-    match f {
-        Finding::Fine => Status::Done,
-        Finding::Bad(fault) => Status::Refused(fault, line),
-    }
+    found.map_err(|fault| Refusal { fault, line })
 }

@@ -20,7 +20,7 @@ numbers_listed l = record {
 -- the boxes of a job text, listed into `old`
 pub record GivesList (t : List ℕ) (depth : ℤ) (old new : List ℤ) (r : Boxes) : Type 0 where
   pub answer : r ≡ numbers_listed
-      (listing_by (list_status t depth (length old)) (read_job t).job
-      (length (boxes_of (read_job t).job (nat_abs depth))))
+      (listing_by (list_status t depth (length old)) (job_in (read_job t))
+      (length (boxes_of (job_in (read_job t)) (nat_abs depth))))
   pub list : new ≡ list_after (list_status t depth (length old))
-      (numbers_of (read_job t).job.head.n (boxes_of (read_job t).job (nat_abs depth))) old
+      (numbers_of (job_in (read_job t)).head.n (boxes_of (job_in (read_job t)) (nat_abs depth))) old

@@ -1,12 +1,12 @@
 -- The step in two operations as C has it: "A fault returns its number and a line", 0 and 0 where there is none, and
 -- beside it all is zero.
-use Rattle.std.specs.Prelude.{ℕ, List}
+use Rattle.std.specs.Prelude.{ℕ, List, Ok, Err}
 use Rattle.faults.specs.Words.{fault_number, number_of, line_of}
 use Rattle.faults.specs.Checks.{and_then}
 use Rattle.jobs.specs.Zero.{zero_ends}
 use Rattle.job_form.specs.JobForm.{read_job}
 use Rattle.one_step.specs.OneStep.{gives_image}
-use Rattle.faults.specs.declared.Status.{Status}
+use Rattle.faults.specs.Checked.{Status, status_of}
 use Rattle.jobs.specs.declared.Ends.{Ends}
 use Rattle.step.specs.declared.Move.{Move}
 use Rattle.one_step.specs.declared.Decided.{Decided}
@@ -24,8 +24,8 @@ abbrev pub shown : ℕ → ℕ → ℕ → Ends → Shown
 shown fault line n e = record { fault = fault; line = line; n = n; sides = sides_of e }
 
 abbrev pub shown_by : Status → ℕ → Ends → Shown
-shown_by Status.Done n e = shown 0 0 n e
-shown_by (Status.Refused f line) n e = shown (fault_number f) line 0 zero_ends
+shown_by (Ok tt) n e = shown 0 0 n e
+shown_by (Err r) n e = shown (fault_number r.fault) r.line 0 zero_ends
 
 -- the header's numbers
 abbrev pub move_number : Move → ℕ
@@ -44,10 +44,10 @@ moved_by d = record {
 
 -- n and the starting box of a job text
 unfoldable pub shown_start : List ℕ → Shown
-shown_start t = shown_by (read_job t).status (read_job t).job.head.n (read_job t).job.ends
+shown_start t = shown_by (status_of (read_job t)) (job_in (read_job t)).head.n (job_in (read_job t)).ends
 
 -- K of a job text and a box
 unfoldable pub shown_image : List ℕ → Ends → Shown
 shown_image t x =
-    shown_by (and_then (read_job t).status (gives_image (read_job t).job x).status) (read_job t).job.head.n
-    (gives_image (read_job t).job x).ends
+    shown_by (and_then (status_of (read_job t)) (status_of (gives_image (job_in (read_job t)) x))) (job_in (read_job t)).head.n
+    (gives_image (job_in (read_job t)) x).ends

@@ -46,7 +46,7 @@ pub extern "C" fn floodrafter_rewrite_result(text: &[u8], out: &mut [u8]) -> Ans
 
 #[unsafe(no_mangle)]
 pub extern "C" fn floodrafter_check_job(text: &[u8]) -> Answer
-    ensures { result ≡ checked (read_job text.now).status }
+    ensures { result ≡ checked status_of (read_job text.now) }
 {
     let status = job_read::read_status(text);
     numbers(Written { status, len: 0 })
@@ -54,7 +54,7 @@ pub extern "C" fn floodrafter_check_job(text: &[u8]) -> Answer
 
 #[unsafe(no_mangle)]
 pub extern "C" fn floodrafter_check_result(text: &[u8]) -> Answer
-    ensures { result ≡ checked (read_result text.now).status }
+    ensures { result ≡ checked status_of (read_result text.now) }
 {
     let read = result_read::read_result(text);
     let status = read.status;
@@ -63,14 +63,14 @@ pub extern "C" fn floodrafter_check_result(text: &[u8]) -> Answer
 
 #[unsafe(no_mangle)]
 pub extern "C" fn floodrafter_explain_job(text: &[u8], out: &mut [u8]) -> usize
-    ensures { Explains (found_in (read_job text.now).status) out.old out.new result }
+    ensures { Explains (found_in status_of (read_job text.now)) out.old out.new result }
 {
     sentences::explain_job(text, out)
 }
 
 #[unsafe(no_mangle)]
 pub extern "C" fn floodrafter_explain_result(text: &[u8], out: &mut [u8]) -> usize
-    ensures { Explains (found_in (read_result text.now).status)
+    ensures { Explains (found_in status_of (read_result text.now))
         out.old out.new result }
 {
     sentences::explain_result(text, out)

@@ -43,28 +43,28 @@ pub extern "C" fn floodrafter_rewrite_result(text: &[u8], out: &mut [u8]) -> Ans
 
 #[unsafe(no_mangle)]
 pub extern "C" fn floodrafter_check_job(text: &[u8]) -> Answer
-    ensures { result ≡ checked (read_job text.now).status }
+    ensures { result ≡ checked status_of (read_job text.now) }
 {
     floodrafter_c::floodrafter_check_job(text)
 }
 
 #[unsafe(no_mangle)]
 pub extern "C" fn floodrafter_check_result(text: &[u8]) -> Answer
-    ensures { result ≡ checked (read_result text.now).status }
+    ensures { result ≡ checked status_of (read_result text.now) }
 {
     floodrafter_c::floodrafter_check_result(text)
 }
 
 #[unsafe(no_mangle)]
 pub extern "C" fn floodrafter_explain_job(text: &[u8], out: &mut [u8]) -> usize
-    ensures { Explains (found_in (read_job text.now).status) out.old out.new result }
+    ensures { Explains (found_in status_of (read_job text.now)) out.old out.new result }
 {
     floodrafter_c::floodrafter_explain_job(text, out)
 }
 
 #[unsafe(no_mangle)]
 pub extern "C" fn floodrafter_explain_result(text: &[u8], out: &mut [u8]) -> usize
-    ensures { Explains (found_in (read_result text.now).status)
+    ensures { Explains (found_in status_of (read_result text.now))
         out.old out.new result }
 {
     floodrafter_c::floodrafter_explain_result(text, out)

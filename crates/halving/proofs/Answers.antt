@@ -8,7 +8,7 @@ use lib.IntN.{ℤ, nat_abs}
 use lib.ListN.{length, drop}
 use lib.Seq.{sets, sets-eq}
 use Rattle.faults.specs.declared.Fault.{Fault}
-use Rattle.faults.specs.declared.Status.{Status}
+use Rattle.faults.specs.Checked.{refused}
 use Rattle.faults.proofs.Laws.{done_first, done_next}
 use Rattle.jobs.specs.declared.Job.{Job}
 use Rattle.checks.specs.Checks.{check_job}
@@ -19,6 +19,7 @@ use Rattle.halving.specs.Halving.{depth_status, halve_status, Halves}
 use Rattle.halving.proofs.Parts.{boxes-few}
 use Rattle.halving.proofs.Lists.{numbers-length}
 use Rattle.halving.proofs.Refusals.{room-holds}
+use Rattle.std.specs.Prelude.{Ok}
 
 pub few-boxes : (j : Job) (depth : ℕ) → length (boxes_of j depth) ≤ 2 ^ depth
 unfolding boxes_of
@@ -31,12 +32,12 @@ from_start numbers old h =
     rw (mul-zero listed_places)
     (sets-eq numbers old 0 (omega arith) ∙ ap (λ (k : ℕ). numbers ++ drop k old) (zero-add (length numbers)))
 
-module _ (j : Job) (depth : ℤ) (room : ℕ) (done : halve_status j depth room ≡ Status.Done) where
-  pub job-fine : check_job j ≡ Status.Done
+module _ (j : Job) (depth : ℤ) (room : ℕ) (done : halve_status j depth room ≡ Ok tt) where
+  pub job-fine : check_job j ≡ Ok tt
   unfolding halve_status
   job-fine = done_first _ _ done
 
-  pub depth-done : depth_status depth ≡ Status.Done
+  pub depth-done : depth_status depth ≡ Ok tt
   unfolding halve_status
   depth-done = done_first _ _ (done_next _ _ done)
 
@@ -48,8 +49,8 @@ module _ (j : Job) (depth : ℤ) (old : List ℤ) where
   abbrev bs : List Listed
   bs = boxes_of j (nat_abs depth)
 
-  pub halves-done : {new : List ℤ} {r : ℕ} → halve_status j depth (length old) ≡ Status.Done
-      → Lists j.head.n old new 0 r bs → Halves j depth old new (record { status = Status.Done; boxes = r })
+  pub halves-done : {new : List ℤ} {r : ℕ} → halve_status j depth (length old) ≡ Ok tt
+      → Lists j.head.n old new 0 r bs → Halves j depth old new (record { status = Ok tt; boxes = r })
   halves-done e h =
       let room = enough-room j depth (length old) e in
       let size = numbers-length j.head.n bs in
@@ -59,6 +60,6 @@ module _ (j : Job) (depth : ℤ) (old : List ℤ) where
             (omega (arith, few-boxes j (nat_abs depth), room, size)));
       }
 
-  pub halves-refused : (f : Fault) (line : ℕ) → halve_status j depth (length old) ≡ Status.Refused f line
-      → Halves j depth old old (record { status = Status.Refused f line; boxes = 0 })
+  pub halves-refused : (f : Fault) (line : ℕ) → halve_status j depth (length old) ≡ refused f line
+      → Halves j depth old old (record { status = refused f line; boxes = 0 })
   halves-refused f line e = record { answer = rw e refl; list = rw e refl }

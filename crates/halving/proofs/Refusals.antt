@@ -14,10 +14,11 @@ use borrow.Author.Tests.{ltb-true, le-ltb, leb-true, le-leb, lt-leb}
 use Rattle.sizes.specs.Sizes.{depth_max}
 use Rattle.faults.specs.Checks.{bad_unless, on_line}
 use Rattle.faults.specs.declared.Fault.{Fault}
-use Rattle.faults.specs.declared.Status.{Status}
+use Rattle.faults.specs.Checked.{refused}
 use Rattle.faults.proofs.Laws.{fine-line, unless-fine}
 use Rattle.halving.specs.Lists.{listed_places}
 use Rattle.halving.specs.Halving.{depth_in, depth_status, room_status}
+use Rattle.std.specs.Prelude.{Ok}
 
 -- ---- the depth
 negative : (depth : ℤ) → lt_z depth (pos 0) ≡ true → depth_in depth ≡ false
@@ -29,20 +30,20 @@ counted (pos d) t = refl
 counted (negsuc d) t = absurd (true≢false t)
 
 module _ (depth : ℤ) where
-  pub depth-negative : lt_z depth (pos 0) ≡ true → Status.Refused Fault.Steps 0 ≡ depth_status depth
+  pub depth-negative : lt_z depth (pos 0) ≡ true → refused Fault.Steps 0 ≡ depth_status depth
   unfolding depth_status bad_unless on_line
   depth-negative t = rw (negative depth t)
 
   pub depth-beyond : lt_z depth (pos 0) ≡ false → depth_max < nat_abs depth
-      → Status.Refused Fault.Steps 0 ≡ depth_status depth
+      → refused Fault.Steps 0 ≡ depth_status depth
   unfolding depth_status bad_unless on_line
   depth-beyond t h = rw (counted depth t, lt-leb (nat_abs depth) depth_max h)
 
-  pub depth-fine : lt_z depth (pos 0) ≡ false → nat_abs depth ≤ depth_max → Status.Done ≡ depth_status depth
+  pub depth-fine : lt_z depth (pos 0) ≡ false → nat_abs depth ≤ depth_max → Ok tt ≡ depth_status depth
   unfolding depth_status bad_unless on_line
   depth-fine t h = rw (counted depth t, le-leb (nat_abs depth) depth_max h)
 
-  in-range : depth_status depth ≡ Status.Done → depth_in depth ≡ true
+  in-range : depth_status depth ≡ Ok tt → depth_in depth ≡ true
   unfolding depth_status
   in-range e = unless-fine (depth_in depth) Fault.Steps (fine-line _ 0 e)
 
@@ -53,11 +54,11 @@ depth-cast (pos d) f t = (tt, record { fits = omega (arith, f.sfits) })
 depth-cast (negsuc d) f t = absurd (true≢false t)
 
 -- a depth that is not refused
-pub depth-counted : (depth : ℤ) → depth_status depth ≡ Status.Done → lt_z depth (pos 0) ≡ false
+pub depth-counted : (depth : ℤ) → depth_status depth ≡ Ok tt → lt_z depth (pos 0) ≡ false
 depth-counted (pos d) e = le-ltb d 0 (omega arith)
 depth-counted (negsuc d) e = absurd (true≢false (sym (in-range (negsuc d) e)))
 
-pub depth-few : (depth : ℤ) → depth_status depth ≡ Status.Done → nat_abs depth ≤ depth_max
+pub depth-few : (depth : ℤ) → depth_status depth ≡ Ok tt → nat_abs depth ≤ depth_max
 depth-few (pos d) e = leb-true d depth_max (in-range (pos d) e)
 depth-few (negsuc d) e = absurd (true≢false (sym (in-range (negsuc d) e)))
 
@@ -66,15 +67,15 @@ module _ (depth room : ℕ) where
   pub shifted : depth ≤ depth_max → (1 * 2 ^ depth) % 2 ^ 64 ≡ 2 ^ depth
   shifted l = shl_exact 1 depth 64 (omega arith) (omega arith) ∙ one-mul (2 ^ depth)
 
-  pub room-enough : 2 ^ depth ≤ room / listed_places → Status.Done ≡ room_status depth room
+  pub room-enough : 2 ^ depth ≤ room / listed_places → Ok tt ≡ room_status depth room
   unfolding room_status bad_unless on_line
   room-enough h = rw (le-leb (2 ^ depth) (room / listed_places) h)
 
-  pub room-short : room / listed_places < 2 ^ depth → Status.Refused Fault.ShortBuffer 0 ≡ room_status depth room
+  pub room-short : room / listed_places < 2 ^ depth → refused Fault.ShortBuffer 0 ≡ room_status depth room
   unfolding room_status bad_unless on_line
   room-short h = rw (lt-leb (2 ^ depth) (room / listed_places) h)
 
-  pub room-holds : room_status depth room ≡ Status.Done → listed_places * 2 ^ depth ≤ room
+  pub room-holds : room_status depth room ≡ Ok tt → listed_places * 2 ^ depth ≤ room
   unfolding room_status
   room-holds e =
       let h = leb-true (2 ^ depth) (room / listed_places) (unless-fine _ Fault.ShortBuffer (fine-line _ 0 e)) in

@@ -10,7 +10,6 @@ use Rattle.sizes.specs.Sizes.{n_max}
 use Rattle.lists.specs.Loops.{tab}
 use Rattle.intervals.specs.Places.{entry_at, side_at}
 use Rattle.intervals.specs.declared.Interval.{Interval}
-use Rattle.faults.specs.declared.Status.{Status}
 use Rattle.jobs.specs.Places.{equation_at, row_at}
 use Rattle.jobs.specs.declared.Equation.{Equation}
 use Rattle.jobs.specs.declared.Job.{Job}
@@ -30,6 +29,7 @@ use Rattle.halving.specs.Parts.{run_by, ran_as}
 use Rattle.halving.specs.Lists.{listed_places, Lists, ListsIn}
 use Rattle.halving.proofs.Parts.{boxes-dropped, boxes-unique, boxes-open, cut_left, boxes-cut, boxes-few}
 use Rattle.halving.proofs.Lists.{lists-none, lists-append, lists_length, high-room}
+use Rattle.std.specs.Prelude.{Ok}
 
 module _ {eqs : List Equation} {c : List (List ℤ)} {n : ℕ} {x : List Interval} {depth room first : ℕ}
     (asked : ListsIn eqs c n x depth room first) (steps : ℕ) {r : Returned}
@@ -106,7 +106,7 @@ room-behind run low depth {n} {at} {next} l room h =
     (high-room at next depth _ l (omega (arith, h.next, boxes-few run n (depth - 1) low)) room)
 
 -- what is made of a job lists the boxes of the job
-pub job-boxes : (j : Job) → check_job j ≡ Status.Done → {eqs : List Equation} {c : List (List ℤ)}
+pub job-boxes : (j : Job) → check_job j ≡ Ok tt → {eqs : List Equation} {c : List (List ℤ)}
     → eqs ≡ equations_of j → c ≡ tab n_max j.head.n (replicate n_max (pos 0)) (row_at j.inv) → (depth : ℕ)
     → (x : List Interval) → boxes_by (run_by eqs c j.head.n j.steps) j.head.n depth x ≡ boxes_from j depth x
 job-boxes j checked made-eqs made-c depth x =

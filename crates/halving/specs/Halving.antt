@@ -1,9 +1,10 @@
 -- Document 02, P8: what halving answers, and what it leaves in the lent list.
 use Rattle.std.specs.Prelude.{Bool, false, List, ◌++◌, ◌≡◌, ℕ, ◌/◌, ◌^◌, leb, ℤ, pos, negsuc, nat_abs, length, drop}
+use Rattle.std.specs.Prelude.{Ok, Err}
 use Rattle.sizes.specs.Sizes.{depth_max}
 use Rattle.faults.specs.Checks.{and_then, bad_unless, on_line}
 use Rattle.faults.specs.declared.Fault.{Fault}
-use Rattle.faults.specs.declared.Status.{Status}
+use Rattle.faults.specs.Checked.{Status}
 use Rattle.jobs.specs.declared.Job.{Job}
 use Rattle.checks.specs.Checks.{check_job}
 use Rattle.halving.specs.declared.Halved.{Halved}
@@ -28,13 +29,13 @@ unfoldable pub halve_status : Job → ℤ → ℕ → Status
 halve_status j depth room = and_then (check_job j) (and_then (depth_status depth) (room_status (nat_abs depth) room))
 
 abbrev pub halved_by : Status → ℕ → Halved
-halved_by Status.Done count = record { status = Status.Done; boxes = count }
-halved_by (Status.Refused f line) count = record { status = Status.Refused f line; boxes = 0 }
+halved_by (Ok tt) count = record { status = Ok tt; boxes = count }
+halved_by (Err r) count = record { status = Err r; boxes = 0 }
 
 -- "the list is untouched by any of them, and past its last listed box always"
 abbrev pub list_after : Status → List ℤ → List ℤ → List ℤ
-list_after Status.Done numbers old = numbers ++ drop (length numbers) old
-list_after (Status.Refused f line) numbers old = old
+list_after (Ok tt) numbers old = numbers ++ drop (length numbers) old
+list_after (Err r) numbers old = old
 
 -- a job is halved into the list `old`
 pub record Halves (j : Job) (depth : ℤ) (old new : List ℤ) (r : Halved) : Type 0 where

@@ -4,7 +4,6 @@
 ghost use Rattle.std.specs.Prelude.{◌≡◌, ◌+◌, ◌*◌, ◌^◌, ◌≤◌, length};
 ghost use Rattle.sizes.specs.Sizes.{n_max, depth_max};
 ghost use Rattle.intervals.specs.Places.{entry_at, side_at};
-ghost use Rattle.faults.specs.declared.Status.{Status};
 ghost use Rattle.jobs.specs.Places.{equation_at};
 ghost use Rattle.checks.specs.Checks.{check_job};
 ghost use Rattle.slopes.specs.Ranges.{BoxIn};
@@ -205,7 +204,7 @@ fn halve_status(j: Job, depth: i64, room: usize) -> Status
 
 // The boxes of a job whose check found nothing. Its equations are made once for all of them.
 fn list_job(j: Job, depth: u64, list: &mut [i64]) -> usize
-    requires j_value { check_job j ≡ Status.Done }
+    requires j_value { check_job j ≡ Ok tt }
     requires depth_in_bounds { listed_places * 2 ^ depth ≤ length list.old }
     ensures { Lists j.head.n list.old list.new 0 result (boxes_of j depth) }
 {

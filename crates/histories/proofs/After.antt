@@ -7,7 +7,7 @@ use mathlib.Core.List.{List}
 use lib.ListN.{length}
 use lib.Seq.{sets}
 use Rattle.sizes.specs.Sizes.{visit_max}
-use Rattle.faults.specs.declared.Status.{Status}
+use Rattle.faults.specs.Checked.{status_of}
 use Rattle.jobs.specs.declared.Job.{Job}
 use Rattle.jobs.specs.declared.Result.{Result}
 use Rattle.checks.specs.Checks.{check_job}
@@ -29,6 +29,7 @@ use Rattle.room_form.proofs.PutReading.{reading-short}
 use Rattle.room_form.proofs.Opening.{job-short}
 use Rattle.histories.proofs.Kept.{other-slot, own-slot, same-last, head-set, slot-long, read_again}
 use Rattle.histories.proofs.Kept.{visitor-there}
+use Rattle.std.specs.Prelude.{Ok}
 
 -- a slot's first byte
 first_byte : (k : ℕ) → slot_from k + 0 ≡ slot_from k
@@ -58,7 +59,7 @@ module _ (t : List ℕ) (k : ℕ) (xs : List ℕ) (room : length xs ≤ slot_siz
 -- ---- a step
 
 module _ (t : List ℕ) (k : ℕ) (long : table_size ≤ length t) (live-slot : k < rooms_max) (j : Job) (was r : Result)
-    (v : Visited (last_in t) (slot_in t k) j was) (right : check_result r ≡ Status.Done) (alive : live r ≡ r)
+    (v : Visited (last_in t) (slot_in t k) j was) (right : check_result r ≡ Ok tt) (alive : live r ≡ r)
     (visit : is_visit (last_in t) j r ≡ true) where
   fits : length (cell (show_result r)) ≤ slot_size
   fits = omega (arith, cell-length (show_result r), reading-short r right)
@@ -107,20 +108,20 @@ module _ (t : List ℕ) (long : table_size ≤ length t) where
 -- ---- opening
 
 module _ (t text : List ℕ) (k : ℕ) (long : table_size ≤ length t) (live-slot : k < rooms_max)
-    (read : (read_job text).status ≡ Status.Done) (left : last_in t < visit_max) where
+    (read : status_of (read_job text) ≡ Ok tt) (left : last_in t < visit_max) where
   abbrev visit : ℕ
   visit = next_visit t
 
   abbrev j : Job
-  j = (read_job text).job
+  j = (job_in (read_job text))
 
   abbrev r : Result
   r = opened_as visit j
 
-  checked : check_job j ≡ Status.Done
+  checked : check_job j ≡ Ok tt
   checked = job.read-checked text read
 
-  right : check_result r ≡ Status.Done
+  right : check_result r ≡ Ok tt
   right = opened-right j checked visit (omega arith)
 
   -- the table with its number, and with the reading too

@@ -14,7 +14,7 @@ use Rattle.lists.specs.Loops.{all_b}
 use Rattle.lists.proofs.All.{all_none, all_more}
 use Rattle.digits.proofs.Cases.{same_or}
 use Rattle.faults.specs.declared.Fault.{Fault}
-use Rattle.faults.specs.declared.Status.{Status}
+use Rattle.faults.specs.Checked.{status_of}
 use Rattle.faults.specs.Checks.{is_bad, bad_unless, on_line, and_then}
 use Rattle.faults.proofs.Laws.{unless-fine, fine-line, done_first, done_next}
 use Rattle.jobs.specs.declared.Job.{Job}
@@ -35,6 +35,7 @@ use Rattle.room_form.proofs.Visited.{visited-together, are-together, held_at, at
 use Rattle.room_form.proofs.Visited.{reading-exactly}
 use Rattle.histories.proofs.After.{step-own, step_other, step-last, close-own, close_other, close-last}
 use Rattle.histories.proofs.After.{clear-last, clear_room, open_own, open-other, open-last}
+use Rattle.std.specs.Prelude.{Ok}
 
 all_of : (n : ℕ) (p : ℕ → Bool) → ((i : ℕ) → i < n → p i ≡ true) → all_b n p ≡ true
 all_of zero p h = all_none p
@@ -68,36 +69,36 @@ clear-formed t long =
 
 -- ---- opening
 
-module _ (t text : List ℕ) (done : open_status t text ≡ Status.Done) where
-  job-next : and_then (read_job text).status
+module _ (t text : List ℕ) (done : open_status t text ≡ Ok tt) where
+  job-next : and_then (status_of (read_job text))
       (and_then (unless (ltb (lowest_free t) rooms_max) Fault.Full) (unless (ltb (last_in t) visit_max) Fault.Visits))
-      ≡ Status.Done
+      ≡ Ok tt
   job-next = done_next (table_status t) _ done
 
   pub open-whole : whole t ≡ true
   open-whole = unless-fine _ Fault.Table (fine-line _ 0 (done_first _ _ done))
 
-  pub open-read : (read_job text).status ≡ Status.Done
+  pub open-read : status_of (read_job text) ≡ Ok tt
   open-read = done_first _ _ job-next
 
   pub open-slot : lowest_free t < rooms_max
   open-slot =
       ltb-true (lowest_free t) rooms_max
-      (unless-fine _ Fault.Full (fine-line _ 0 (done_first _ _ (done_next (read_job text).status _ job-next))))
+      (unless-fine _ Fault.Full (fine-line _ 0 (done_first _ _ (done_next (status_of (read_job text)) _ job-next))))
 
   pub open-left : last_in t < visit_max
   open-left =
       ltb-true (last_in t) visit_max
-      (unless-fine _ Fault.Visits (fine-line _ 0 (done_next _ _ (done_next (read_job text).status _ job-next))))
+      (unless-fine _ Fault.Visits (fine-line _ 0 (done_next _ _ (done_next (status_of (read_job text)) _ job-next))))
 
   pub open_is : opened t text
-      ≡ with_visitor t (lowest_free t) (next_visit t) (show_result (opened_as (next_visit t) (read_job text).job)) text
+      ≡ with_visitor t (lowest_free t) (next_visit t) (show_result (opened_as (next_visit t) (job_in (read_job text)))) text
   unfolding opened
   open_is = rw done refl
 
   -- the room that is opened, and every other
   pub opened-own : room_at (opened t text) (lowest_free t)
-      ≡ taken_room (read_job text).job (opened_as (next_visit t) (read_job text).job)
+      ≡ taken_room (job_in (read_job text)) (opened_as (next_visit t) (job_in (read_job text)))
   opened-own =
       ap (λ (u : List ℕ). room_at u (lowest_free t)) open_is
       ∙ open_own t text (lowest_free t) (whole_long t open-whole) open-slot open-read open-left

@@ -8,7 +8,6 @@ use lib.ListN.{length}
 use lib.Seq.{sets}
 use lib.Dec.{eqb, ltb}
 use borrow.Author.Tests.{eqb-true}
-use Rattle.faults.specs.declared.Status.{Status}
 use Rattle.jobs.specs.declared.Job.{Job}
 use Rattle.jobs.specs.declared.Result.{Result}
 use Rattle.result_form.specs.ResultShows.{show_result}
@@ -21,6 +20,7 @@ use Rattle.histories.specs.Histories.{Call, after, after_all, Holds, shows, own_
 use Rattle.term_checks.proofs.RangeLaws.{and_left, and_right}
 use Rattle.histories.proofs.Formed.{open-slot, opened-own, open-formed}
 use Rattle.histories.proofs.Isolated.{own-good, moved_on, stays-finished, open_kept, step-apart, close-apart}
+use Rattle.std.specs.Prelude.{Ok}
 
 -- ---- one call
 
@@ -83,9 +83,9 @@ isolated (c ∷ h) t k v j r holds stays =
 
 -- ---- from its opening on
 
-pub opened-holds : (t text : List ℕ) → open_status t text ≡ Status.Done
-    → Holds (opened t text) (lowest_free t) (next_visit t) (read_job text).job
-    (opened_as (next_visit t) (read_job text).job)
+pub opened-holds : (t text : List ℕ) → open_status t text ≡ Ok tt
+    → Holds (opened t text) (lowest_free t) (next_visit t) (job_in (read_job text))
+    (opened_as (next_visit t) (job_in (read_job text)))
 opened-holds t text done = record {
   is-whole = open-formed t text done;
   inside = open-slot t text done;

@@ -9,7 +9,6 @@ use lib.Seq.{sets}
 use lib.Dec.{eqb, ltb}
 use borrow.Author.Tests.{eq-eqb, ne_eqb, lt-ltb}
 use Rattle.faults.specs.declared.Fault.{Fault}
-use Rattle.faults.specs.declared.Status.{Status}
 use Rattle.faults.specs.Checks.{is_bad, bad_unless, on_line, and_then}
 use Rattle.faults.proofs.Laws.{not-bad}
 use Rattle.jobs.specs.declared.Job.{Job}
@@ -28,10 +27,11 @@ use Rattle.room_form.proofs.Visited.{held_at}
 use Rattle.histories.proofs.After.{close_other}
 use Rattle.histories.proofs.Formed.{open-slot, opened-other, open-formed, moved-own, moved_other}
 use Rattle.histories.proofs.Formed.{moved-formed, closed-formed}
+use Rattle.std.specs.Prelude.{Ok}
 
 -- ---- each call by its cases
 
-pub open-cases : (t text : List ℕ) (P : List ℕ → Type 0) → P t → (open_status t text ≡ Status.Done → P (opened t text))
+pub open-cases : (t text : List ℕ) (P : List ℕ → Type 0) → P t → (open_status t text ≡ Ok tt → P (opened t text))
     → P (opened t text)
 unfolding opened
 open-cases t text P same changed = go (is_bad (open_status t text)) refl
@@ -151,7 +151,7 @@ module _ (t : List ℕ) (k v : ℕ) (j : Job) (r : Result) (h : Holds t k v j r)
       open-cases t text (λ u. Holds u k v j r) h (λ done.
       same-room (opened t text) (open-formed t text done) (opened-other t text done k h.inside (not-lowest done)))
     where
-      not-lowest : open_status t text ≡ Status.Done → k ≡ lowest_free t → ⊥
+      not-lowest : open_status t text ≡ Ok tt → k ≡ lowest_free t → ⊥
       not-lowest done e =
           let free = lowest-is-free t (open-slot t text done) in
           true≢false (sym free ∙ ap (λ (i : ℕ). is_free (room_at t i).standing) (sym e)

@@ -8,14 +8,13 @@ use mathlib.Core.Logic.{◌⊎◌, inl, inr}
 use lib.ListN.{length, drop, length-drop}
 use Rattle.digits.proofs.Cases.{either}
 use lib.Seq.{sets, length-sets, length-take-le}
-use Rattle.faults.specs.declared.Status.{Status}
+use Rattle.faults.specs.Checked.{Checked, status_of}
 use Rattle.faults.specs.Checks.{is_bad}
 use Rattle.text.specs.Cut.{feeds}
 use Rattle.jobs.specs.declared.Job.{Job}
 use Rattle.jobs.specs.declared.Result.{Result}
 use Rattle.checks.specs.CheckResult.{check_result}
 use Rattle.reading.specs.Lines.{closed, more, opened, ended, read}
-use Rattle.job_form.specs.declared.JobRead.{JobRead}
 use Rattle.job_form.specs.JobForm.{read_job}
 use Rattle.result_form.specs.ResultForm.{read_result}
 use Rattle.result_form.specs.ResultShows.{show_result, live}
@@ -30,6 +29,7 @@ use Rattle.room_form.specs.Table.{slot_in, last_in, is_visit}
 use Rattle.room_form.proofs.PutReading.{reading-short}
 use Rattle.room_form.proofs.Opening.{job-short}
 use Rattle.room_form.proofs.Visited.{Visited}
+use Rattle.std.specs.Prelude.{Ok}
 
 -- ---- places
 
@@ -66,14 +66,14 @@ pub slot-long : (t : List ℕ) (k : ℕ) → table_size ≤ length t → k < roo
 slot-long t k h l = length-take-le slot_size (drop (slot_from k) t) (omega (arith, length-drop (slot_from k) t))
 
 -- no right text is empty
-text-some : (text : List ℕ) → (read_job text).status ≡ Status.Done → length text ≡ 0 → ⊥
+text-some : (text : List ℕ) → status_of (read_job text) ≡ Ok tt → length text ≡ 0 → ⊥
 unfolding read_job read closed more opened ended feeds
 text-some [] e none = true≢false (ap is_bad e)
 text-some (x ∷ xs) e none = omega arith
 
 -- ---- a reading that is written into a slot which holds a visit
 
-module _ (s : List ℕ) (j : Job) (r : Result) (long : length s ≡ slot_size) (right : check_result r ≡ Status.Done)
+module _ (s : List ℕ) (j : Job) (r : Result) (long : length s ≡ slot_size) (right : check_result r ≡ Ok tt)
     (alive : live r ≡ r) where
   abbrev shown : List ℕ
   shown = show_result r
@@ -93,7 +93,7 @@ module _ (s : List ℕ) (j : Job) (r : Result) (long : length s ≡ slot_size) (
   length-there : number_at s' reading_from ≡ length shown
   length-there = length_back s reading_from shown (omega (arith, long, short)) (omega (arith, short))
 
-  reading-there : read_result (text_at s' reading_from) ≡ record { status = Status.Done; result = r }
+  reading-there : read_result (text_at s' reading_from) ≡ Ok r
   reading-there = ap read_result text-there ∙ (result.exactly shown r).1 (refl, right, alive)
 
   job-length : number_at s' job_from ≡ number_at s job_from
@@ -113,9 +113,9 @@ module _ (s : List ℕ) (j : Job) (r : Result) (long : length s ≡ slot_size) (
   }
 
   -- and a job text behind it
-  module _ (text : List ℕ) (read : read_job text ≡ record { status = Status.Done; job = j }) where
+  module _ (text : List ℕ) (read : read_job text ≡ Ok j) where
     fits : length text ≤ job_most
-    fits = job-short text (ap (λ (x : JobRead). x.status) read)
+    fits = job-short text (ap (λ (x : Checked Job). x.status) read)
 
     abbrev s'' : List ℕ
     s'' = sets s' job_from (cell text)
@@ -129,7 +129,7 @@ module _ (s : List ℕ) (j : Job) (r : Result) (long : length s ≡ slot_size) (
     pub visitor-there : {last : ℕ} → is_visit last j r ≡ true → Visited last s'' j r
     visitor-there visit = record {
       some = λ e.
-          text-some text (ap (λ (x : JobRead). x.status) read)
+          text-some text (ap (λ (x : Checked Job). x.status) read)
           (sym (length_back s' job_from text room (omega (arith, fits))) ∙ e);
       reading-fits = omega (
         arith,

@@ -5,7 +5,6 @@ use mathlib.Core.Path.{◌≡◌, refl, sym, ap, ◌∙◌, subst}
 use mathlib.Core.Bool.{Bool, true, false, cond}
 use mathlib.Core.List.{List}
 use Rattle.digits.proofs.Cases.{same_or}
-use Rattle.faults.specs.declared.Status.{Status}
 use Rattle.jobs.specs.declared.Job.{Job}
 use Rattle.jobs.specs.declared.Result.{Result}
 use Rattle.job_form.specs.JobForm.{read_job}
@@ -21,8 +20,9 @@ use Rattle.room_form.specs.Calls.{is_free, first_from, lowest_free, next_visit, 
 use Rattle.histories.specs.Histories.{Call, after_all, Holds, own_steps, Stays, reads_after}
 use Rattle.histories.proofs.Formed.{open-read}
 use Rattle.histories.proofs.Histories.{isolated, opened-holds}
+use Rattle.std.specs.Prelude.{Ok}
 
-module _ (t text : List ℕ) (done : open_status t text ≡ Status.Done) (h : List Call)
+module _ (t text : List ℕ) (done : open_status t text ≡ Ok tt) (h : List Call)
     (stays : Stays (lowest_free t) (next_visit t) h) where
   abbrev k : ℕ
   k = lowest_free t
@@ -31,7 +31,7 @@ module _ (t text : List ℕ) (done : open_status t text ≡ Status.Done) (h : Li
   v = next_visit t
 
   abbrev j : Job
-  j = (read_job text).job
+  j = (job_in (read_job text))
 
   -- its own step calls that weren't refused
   abbrev calls : ℕ
@@ -69,8 +69,8 @@ two-histories h g t u k v i w j r first second stays remains same =
 
 -- two visits of one job text, each on its table and in its slot, after as many own step calls: alike but for their
 -- numbers
-pub same-readings : (h g : List Call) (t u text : List ℕ) → open_status t text ≡ Status.Done
-    → open_status u text ≡ Status.Done → Stays (lowest_free t) (next_visit t) h → Stays (lowest_free u) (next_visit u) g
+pub same-readings : (h g : List Call) (t u text : List ℕ) → open_status t text ≡ Ok tt
+    → open_status u text ≡ Ok tt → Stays (lowest_free t) (next_visit t) h → Stays (lowest_free u) (next_visit u) g
     → own_steps (lowest_free t) (next_visit t) (opened t text) h
     ≡ own_steps (lowest_free u) (next_visit u) (opened u text) g
     → with_visit (reads_after t text h) 0 ≡ with_visit (reads_after u text g) 0
@@ -80,4 +80,4 @@ same-readings h g t u text first second stays remains same =
     ∙ sym (ap (λ (room : Room). with_visit room.reading 0) (own-reading u text second g remains).room)
   where
     job : Job
-    job = (read_job text).job
+    job = (job_in (read_job text))

@@ -4,7 +4,6 @@ use native.Mathlib.Omega.{arith}
 use mathlib.Core.Path.{◌≡◌, sym, ap, ◌∙◌}
 use mathlib.Core.List.{List, [], ◌∷◌, ◌++◌}
 use Rattle.intervals.specs.declared.Interval.{Interval}
-use Rattle.faults.specs.declared.Status.{Status}
 use Rattle.jobs.specs.declared.Job.{Job}
 use Rattle.jobs.specs.declared.Result.{Result}
 use Rattle.jobs.specs.declared.Verdict.{Verdict}
@@ -26,6 +25,7 @@ use Rattle.room_form.specs.Calls.{lowest_free, next_visit, open_status, opened}
 use Rattle.histories.specs.Histories.{Call, after, own_steps, Stays, reads_after, box_after}
 use Rattle.histories.proofs.Formed.{open-read}
 use Rattle.histories.proofs.Own.{own-reading}
+use Rattle.std.specs.Prelude.{Ok}
 
 module _ (k v : ℕ) where
   stays-first : (h g : List Call) → Stays k v (h ++ g) → Stays k v h
@@ -38,7 +38,7 @@ module _ (k v : ℕ) where
   own-more [] g t = omega arith
   own-more (c ∷ h) g t = omega (arith, own-more h g (after t c))
 
-module _ (t text : List ℕ) (done : open_status t text ≡ Status.Done) where
+module _ (t text : List ℕ) (done : open_status t text ≡ Ok tt) where
   abbrev k : ℕ
   k = lowest_free t
 
@@ -46,7 +46,7 @@ module _ (t text : List ℕ) (done : open_status t text ≡ Status.Done) where
   v = next_visit t
 
   abbrev j : Job
-  j = (read_job text).job
+  j = (job_in (read_job text))
 
   abbrev n : ℕ
   n = j.head.n
@@ -61,7 +61,7 @@ module _ (t text : List ℕ) (done : open_status t text ≡ Status.Done) where
   abbrev allowed : List Call → ℕ
   allowed h = min (own_steps k v (opened t text) h) j.steps
 
-  checked : check_job j ≡ Status.Done
+  checked : check_job j ≡ Ok tt
   checked = read-checked text (open-read t text done)
 
   module _ (h : List Call) (stays : Stays k v h) where

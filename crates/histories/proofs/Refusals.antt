@@ -10,7 +10,7 @@ use lib.Dec.{ltb}
 use borrow.Author.Tests.{lt-ltb, lt-leb, le-leb, ltb-false}
 use Rattle.digits.proofs.Cases.{either}
 use Rattle.faults.specs.declared.Fault.{Fault}
-use Rattle.faults.specs.declared.Status.{Status}
+use Rattle.faults.specs.Checked.{Status, refused}
 use Rattle.faults.specs.Words.{fault_number, fault_max, number_of}
 use Rattle.faults.specs.Checks.{is_bad, bad_unless, on_line, and_then}
 use Rattle.sizes.specs.Sizes.{text_max, visit_max}
@@ -33,12 +33,13 @@ use Rattle.histories.proofs.After.{clear-last, close-own}
 use Rattle.room_form.proofs.Free.{free-or-taken}
 use Rattle.histories.proofs.Isolated.{lowest-is-free}
 use Rattle.histories.proofs.Own.{lower-taken}
+use Rattle.std.specs.Prelude.{Ok, Err}
 
 pub cleared-next : (t : List ℕ) → table_size ≤ length t → next_visit (cleared t) ≡ 1
 unfolding cleared bad_unless on_line
 cleared-next t long = rw (le-leb table_size (length t) long) (ap (λ (n : ℕ). n + 1) (clear-last t long))
 
-pub close-frees : (t : List ℕ) (slot visit : ℕ) → held_status t slot visit ≡ Status.Done
+pub close-frees : (t : List ℕ) (slot visit : ℕ) → held_status t slot visit ≡ Ok tt
     → room_at (closed t slot visit) slot ≡ free_room
 unfolding closed
 close-frees t slot visit done =
@@ -63,66 +64,66 @@ finished-stays t slot visit space e = (finished-unmoved t slot visit space e, rw
 
 -- ---- 16, then 15
 
-pub clear-no-table : (t : List ℕ) → length t < table_size → clear_status t ≡ Status.Refused Fault.Table 0
+pub clear-no-table : (t : List ℕ) → length t < table_size → clear_status t ≡ refused Fault.Table 0
 unfolding bad_unless on_line
 clear-no-table t few = rw (lt-leb table_size (length t) few) refl
 
-pub clear-done : (t : List ℕ) → table_size ≤ length t → clear_status t ≡ Status.Done
+pub clear-done : (t : List ℕ) → table_size ≤ length t → clear_status t ≡ Ok tt
 unfolding bad_unless on_line
 clear-done t long = rw (le-leb table_size (length t) long) refl
 
 pub open-or-not : (t : List ℕ) (slot visit : ℕ) → whole t ≡ true
-    → ((held_status t slot visit ≡ Status.Done) × HeldAt t slot visit)
-    ⊎ (held_status t slot visit ≡ Status.Refused Fault.NotOpen 0)
+    → ((held_status t slot visit ≡ Ok tt) × HeldAt t slot visit)
+    ⊎ (held_status t slot visit ≡ refused Fault.NotOpen 0)
 unfolding bad_unless on_line and_then
 open-or-not t slot visit e = go (ltb slot rooms_max && holds (room_at t slot) visit) refl
   where
     go : (b : Bool) → ltb slot rooms_max && holds (room_at t slot) visit ≡ b
-        → ((held_status t slot visit ≡ Status.Done) × HeldAt t slot visit)
-        ⊎ (held_status t slot visit ≡ Status.Refused Fault.NotOpen 0)
-    go true q = let done : held_status t slot visit ≡ Status.Done = rw (e, q) refl in
+        → ((held_status t slot visit ≡ Ok tt) × HeldAt t slot visit)
+        ⊎ (held_status t slot visit ≡ refused Fault.NotOpen 0)
+    go true q = let done : held_status t slot visit ≡ (Ok tt) = rw (e, q) refl in
         inl (done, held_at t slot visit (ap is_bad done))
     go false q = inr (rw (e, q) refl)
 
 -- no job text has a fault of the table
-text-fault : (text : List ℕ) (f : Fault) (n : ℕ) → (read_job text).status ≡ Status.Refused f n
+text-fault : (text : List ℕ) (f : Fault) (n : ℕ) → status_of (read_job text) ≡ refused f n
     → fault_number f ≤ fault_max
 text-fault text f n e =
     either text_max (length text)
     (λ long. same-fault (sym (read-status text ∙ ap status_of (read-long job_form_of text long)) ∙ e))
     (λ few. (refused-blamed OfLine spelling job-says ((first-bad text f n few).0 e)).of-text)
   where
-    same-fault : Status.Refused Fault.LongText 0 ≡ Status.Refused f n → fault_number f ≤ fault_max
+    same-fault : refused Fault.LongText 0 ≡ refused f n → fault_number f ≤ fault_max
     same-fault q = omega (arith, ap number_of q)
 
 -- what a whole table refuses by a fault of its own: 13 where no slot is free, 14 where the last visit was handed out
 own-fault : (t text : List ℕ) → whole t ≡ true → (f : Fault) → fault_max < fault_number f
-    → open_status t text ≡ Status.Refused f 0
+    → open_status t text ≡ refused f 0
     → ((fault_number f ≡ 13) × (rooms_max ≤ lowest_free t)) ⊎ ((fault_number f ≡ 14) × (visit_max ≤ last_in t))
 unfolding bad_unless on_line and_then
 own-fault t text e f own bad =
-    go (read_job text).status (ltb (lowest_free t) rooms_max) (ltb (last_in t) visit_max) refl refl refl (rw e at bad)
+    go (status_of (read_job text)) (ltb (lowest_free t) rooms_max) (ltb (last_in t) visit_max) refl refl refl (rw e at bad)
   where
-    go : (st : Status) (b c : Bool) → (read_job text).status ≡ st → ltb (lowest_free t) rooms_max ≡ b
+    go : (st : Status) (b c : Bool) → status_of (read_job text) ≡ st → ltb (lowest_free t) rooms_max ≡ b
         → ltb (last_in t) visit_max ≡ c
         → and_then st (and_then (on_line (bad_unless b Fault.Full) 0) (on_line (bad_unless c Fault.Visits) 0))
-        ≡ Status.Refused f 0
+        ≡ refused f 0
         → ((fault_number f ≡ 13) × (rooms_max ≤ lowest_free t)) ⊎ ((fault_number f ≡ 14) × (visit_max ≤ last_in t))
-    go (Status.Refused g n) b c is p q same = absurd (omega (arith, own, text-fault text g n is, ap number_of same))
-    go Status.Done false c is p q same = inl (sym (ap number_of same), ltb-false (lowest_free t) rooms_max p)
-    go Status.Done true false is p q same = inr (sym (ap number_of same), ltb-false (last_in t) visit_max q)
-    go Status.Done true true is p q same = absurd (omega (arith, own, ap number_of same))
+    go (Err r) b c is p q same = absurd (omega (arith, own, text-fault text r.fault r.line is, ap number_of same))
+    go (Ok tt) false c is p q same = inl (sym (ap number_of same), ltb-false (lowest_free t) rooms_max p)
+    go (Ok tt) true false is p q same = inr (sym (ap number_of same), ltb-false (last_in t) visit_max q)
+    go (Ok tt) true true is p q same = absurd (omega (arith, own, ap number_of same))
 
-pub only-no-table : (t text : List ℕ) → whole t ≡ true → open_status t text ≡ Status.Refused Fault.Table 0 → ⊥
+pub only-no-table : (t text : List ℕ) → whole t ≡ true → open_status t text ≡ refused Fault.Table 0 → ⊥
 only-no-table t text e bad =
     ⊎_elim (λ is. omega (arith, is.0)) (λ is. omega (arith, is.0)) (own-fault t text e Fault.Table (omega arith) bad)
 
 pub held-only-no-table : (t : List ℕ) (slot visit : ℕ) → whole t ≡ true
-    → held_status t slot visit ≡ Status.Refused Fault.Table 0 → ⊥
+    → held_status t slot visit ≡ refused Fault.Table 0 → ⊥
 unfolding bad_unless on_line and_then
 held-only-no-table t slot visit e bad = go (ltb slot rooms_max && holds (room_at t slot) visit) (rw e at bad)
   where
-    go : (b : Bool) → on_line (bad_unless b Fault.NotOpen) 0 ≡ Status.Refused Fault.Table 0 → ⊥
+    go : (b : Bool) → on_line (bad_unless b Fault.NotOpen) 0 ≡ refused Fault.Table 0 → ⊥
     go true q = let z = ap number_of q in omega (arith, z)
     go false q = let z = ap number_of q in omega (arith, z)
 
@@ -147,13 +148,13 @@ all-taken t e full i l =
     free-or-taken (room_at t i).standing (whole_each t e i l)
     (λ free. absurd (true≢false (sym free ∙ lower-taken t i (omega arith)))) (λ taken. taken)
 
-pub only-full : (t text : List ℕ) → whole t ≡ true → open_status t text ≡ Status.Refused Fault.Full 0 → (i : ℕ)
+pub only-full : (t text : List ℕ) → whole t ≡ true → open_status t text ≡ refused Fault.Full 0 → (i : ℕ)
     → i < rooms_max → is_taken (room_at t i).standing ≡ true
 only-full t text e bad =
     ⊎_elim (λ is. all-taken t e is.1) (λ is. absurd (omega (arith, is.0)))
     (own-fault t text e Fault.Full (omega arith) bad)
 
-pub only-last : (t text : List ℕ) → whole t ≡ true → open_status t text ≡ Status.Refused Fault.Visits 0
+pub only-last : (t text : List ℕ) → whole t ≡ true → open_status t text ≡ refused Fault.Visits 0
     → visit_max ≤ last_in t
 only-last t text e bad =
     ⊎_elim (λ is. absurd (omega (arith, is.0))) (λ is. is.1) (own-fault t text e Fault.Visits (omega arith) bad)

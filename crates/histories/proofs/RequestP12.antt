@@ -9,7 +9,7 @@ use mathlib.Core.List.{List, ◌++◌}
 use mathlib.Core.Logic.{◌⊎◌}
 use lib.ListN.{length}
 use Rattle.faults.specs.declared.Fault.{Fault}
-use Rattle.faults.specs.declared.Status.{Status}
+use Rattle.faults.specs.Checked.{refused, status_of}
 use Rattle.faults.specs.Checks.{is_bad}
 use Rattle.jobs.specs.declared.Job.{Job}
 use Rattle.jobs.specs.declared.Result.{Result}
@@ -39,11 +39,12 @@ use Rattle.histories.proofs.Isolated as isolated
 use Rattle.histories.proofs.Own as own
 use Rattle.histories.proofs.PerVisit as per-visit
 use Rattle.histories.proofs.Stale as stale
+use Rattle.std.specs.Prelude.{Ok}
 
 -- ---- opening and closing
 
 -- "Opening takes the lowest free slot": it is free, and no lower one is;
-pub slot-free : (t text : List ℕ) → open_status t text ≡ Status.Done
+pub slot-free : (t text : List ℕ) → open_status t text ≡ Ok tt
     → is_free (room_at t (lowest_free t)).standing ≡ true
 slot-free t text done = isolated.lowest-is-free t (formed.open-slot t text done)
 
@@ -54,7 +55,7 @@ slot-lowest = own.lower-taken
 pub counts-from : (t : List ℕ) → table_size ≤ length t → next_visit (cleared t) ≡ 1
 counts-from = refusals.cleared-next
 
-pub counts_up : (t text : List ℕ) → open_status t text ≡ Status.Done → next_visit (opened t text) ≡ next_visit t + 1
+pub counts_up : (t text : List ℕ) → open_status t text ≡ Ok tt → next_visit (opened t text) ≡ next_visit t + 1
 counts_up t text done = ap (λ (n : ℕ). n + 1) (formed.opened-last t text done)
 
 -- "and not reused before the next;": a visit that was handed out and that a slot does not hold, it never holds again
@@ -63,7 +64,7 @@ pub not-reused : (h : List Call) (t : List ℕ) (k v : ℕ) → whole t ≡ true
 not-reused = stale.stale
 
 -- "Closing frees the slot."
-pub close-frees : (t : List ℕ) (slot visit : ℕ) → held_status t slot visit ≡ Status.Done
+pub close-frees : (t : List ℕ) (slot visit : ℕ) → held_status t slot visit ≡ Ok tt
     → room_at (closed t slot visit) slot ≡ free_room
 close-frees = refusals.close-frees
 
@@ -71,17 +72,17 @@ close-frees = refusals.close-frees
 
 -- "Steps add up to the job's allowance,": after so many step calls the reading is the run of the job with the lesser of
 -- their number and its allowance;
-pub steps-add : (j : Job) → check_job j ≡ Status.Done → (visit calls : ℕ)
+pub steps-add : (j : Job) → check_job j ≡ Ok tt → (visit calls : ℕ)
     → times calls (next_reading j) (opened_as visit j) ≡ reading_of visit j (job_run j (min calls j.steps))
 steps-add = steps.steps-add
 
 -- "and the answer after them is that of one run."
-pub one-run : (j : Job) → check_job j ≡ Status.Done → (visit : ℕ)
+pub one-run : (j : Job) → check_job j ≡ Ok tt → (visit : ℕ)
     → reading_of visit j (job_run j j.steps) ≡ reading_of visit j (outcome_of j)
 one-run = steps.last-run
 
 -- "A visit not yet decided reads as spent with its steps and box so far;": a run that is spent counts all its steps
-pub spent-so-far : (j : Job) → check_job j ≡ Status.Done → (visit a : ℕ)
+pub spent-so-far : (j : Job) → check_job j ≡ Ok tt → (visit a : ℕ)
     → (reading_of visit j (job_run j a)).verdict ≡ Verdict.Spent → (reading_of visit j (job_run j a)).steps ≡ a
 spent-so-far = steps.reads-spent
 
@@ -96,18 +97,18 @@ finished-stays = refusals.finished-stays
 -- being those that show its slot and visit and aren't refused": after any history in which its visit is not closed it
 -- reads as the run of its own job with so many steps as its own step calls, and "the answer of one run [reads] per
 -- visit"
-pub own-calls-only : (t text : List ℕ) → open_status t text ≡ Status.Done → (h : List Call)
+pub own-calls-only : (t text : List ℕ) → open_status t text ≡ Ok tt → (h : List Call)
     → Stays (lowest_free t) (next_visit t) h
-    → Holds (after_all (opened t text) h) (lowest_free t) (next_visit t) (read_job text).job
-    (reading_of (next_visit t) (read_job text).job
-    (job_run (read_job text).job
-    (min (own_steps (lowest_free t) (next_visit t) (opened t text) h) (read_job text).job.steps)))
+    → Holds (after_all (opened t text) h) (lowest_free t) (next_visit t) (job_in (read_job text))
+    (reading_of (next_visit t) (job_in (read_job text))
+    (job_run (job_in (read_job text))
+    (min (own_steps (lowest_free t) (next_visit t) (opened t text) h) (job_in (read_job text)).steps)))
 own-calls-only = own.own-reading
 
 -- two visits of one job text, on any tables, in any slots, whatever others do: after as many own step calls each they
 -- read alike but for their numbers
-pub own-job-only : (h g : List Call) (t u text : List ℕ) → open_status t text ≡ Status.Done
-    → open_status u text ≡ Status.Done → Stays (lowest_free t) (next_visit t) h → Stays (lowest_free u) (next_visit u) g
+pub own-job-only : (h g : List Call) (t u text : List ℕ) → open_status t text ≡ Ok tt
+    → open_status u text ≡ Ok tt → Stays (lowest_free t) (next_visit t) h → Stays (lowest_free u) (next_visit u) g
     → own_steps (lowest_free t) (next_visit t) (opened t text) h
     ≡ own_steps (lowest_free u) (next_visit u) (opened u text) g
     → with_visit (reads_after t text h) 0 ≡ with_visit (reads_after u text g) 0
@@ -123,9 +124,9 @@ two-histories = own.two-histories
 -- By `own-calls-only` a visit reads as the run `job_run` of its job, of which promises/proofs/Demand3.antt speaks: what
 -- that says of two allowances is here said of two histories, one of which goes on from the other.
 
-module _ (t text : List ℕ) (done : open_status t text ≡ Status.Done) where
+module _ (t text : List ℕ) (done : open_status t text ≡ Ok tt) where
   abbrev j : Job
-  j = (read_job text).job
+  j = (job_in (read_job text))
 
   abbrev n : ℕ
   n = j.head.n
@@ -157,25 +158,25 @@ module _ (t text : List ℕ) (done : open_status t text ≡ Status.Done) where
 -- ---- refusals
 
 -- "first 16, exactly where the lent bytes are too few"
-pub clear-sixteen : (t : List ℕ) → length t < table_size → clear_status t ≡ Status.Refused Fault.Table 0
+pub clear-sixteen : (t : List ℕ) → length t < table_size → clear_status t ≡ refused Fault.Table 0
 clear-sixteen = refusals.clear-no-table
 
-pub clear-else : (t : List ℕ) → table_size ≤ length t → clear_status t ≡ Status.Done
+pub clear-else : (t : List ℕ) → table_size ≤ length t → clear_status t ≡ Ok tt
 clear-else = refusals.clear-done
 
 -- "or, clearing apart, break the table's form"
-pub open-sixteen : (t text : List ℕ) → whole t ≡ false → open_status t text ≡ Status.Refused Fault.Table 0
+pub open-sixteen : (t text : List ℕ) → whole t ≡ false → open_status t text ≡ refused Fault.Table 0
 open-sixteen = opening.no_table
 
 pub held-sixteen : (t : List ℕ) (slot visit : ℕ) → whole t ≡ false
-    → held_status t slot visit ≡ Status.Refused Fault.Table 0
+    → held_status t slot visit ≡ refused Fault.Table 0
 held-sixteen = visited.held-no-table
 
-pub only-sixteen : (t text : List ℕ) → whole t ≡ true → open_status t text ≡ Status.Refused Fault.Table 0 → ⊥
+pub only-sixteen : (t text : List ℕ) → whole t ≡ true → open_status t text ≡ refused Fault.Table 0 → ⊥
 only-sixteen = refusals.only-no-table
 
 pub held-only-sixteen : (t : List ℕ) (slot visit : ℕ) → whole t ≡ true
-    → held_status t slot visit ≡ Status.Refused Fault.Table 0 → ⊥
+    → held_status t slot visit ≡ refused Fault.Table 0 → ⊥
 held-only-sixteen = refusals.held-only-no-table
 
 -- "which clearing and every call leave whole;"
@@ -186,37 +187,37 @@ pub calls-leave-whole : (t : List ℕ) → whole t ≡ true → (c : Call) → w
 calls-leave-whole = isolated.call-formed
 
 -- "opening, then the job's own,"
-pub then-job : (t text : List ℕ) → whole t ≡ true → is_bad (read_job text).status ≡ true
-    → open_status t text ≡ (read_job text).status
+pub then-job : (t text : List ℕ) → whole t ≡ true → is_bad (status_of (read_job text)) ≡ true
+    → open_status t text ≡ (status_of (read_job text))
 then-job = opening.no-job
 
 -- "then 13 exactly when all eight slots are taken,"
-pub then-full : (t text : List ℕ) → whole t ≡ true → is_bad (read_job text).status ≡ false
-    → ((i : ℕ) → i < 8 → is_taken (room_at t i).standing ≡ true) → open_status t text ≡ Status.Refused Fault.Full 0
+pub then-full : (t text : List ℕ) → whole t ≡ true → is_bad (status_of (read_job text)) ≡ false
+    → ((i : ℕ) → i < 8 → is_taken (room_at t i).standing ≡ true) → open_status t text ≡ refused Fault.Full 0
 then-full t text e right taken = opening.is-full t text e right (refusals.none_left t taken)
 
-pub only-full : (t text : List ℕ) → whole t ≡ true → open_status t text ≡ Status.Refused Fault.Full 0 → (i : ℕ) → i < 8
+pub only-full : (t text : List ℕ) → whole t ≡ true → open_status t text ≡ refused Fault.Full 0 → (i : ℕ) → i < 8
     → is_taken (room_at t i).standing ≡ true
 only-full = refusals.only-full
 
 -- "then 14 after visit 999,999,999;"
-pub then-visits : (t text : List ℕ) → whole t ≡ true → is_bad (read_job text).status ≡ false → (i : ℕ) → i < 8
-    → is_free (room_at t i).standing ≡ true → 999999999 ≤ last_in t → open_status t text ≡ Status.Refused Fault.Visits 0
+pub then-visits : (t text : List ℕ) → whole t ≡ true → is_bad (status_of (read_job text)) ≡ false → (i : ℕ) → i < 8
+    → is_free (room_at t i).standing ≡ true → 999999999 ≤ last_in t → open_status t text ≡ refused Fault.Visits 0
 then-visits t text e right i l free = opening.no-visit t text e right (refusals.some_left t i l free)
 
-pub only-visits : (t text : List ℕ) → whole t ≡ true → open_status t text ≡ Status.Refused Fault.Visits 0
+pub only-visits : (t text : List ℕ) → whole t ≡ true → open_status t text ≡ refused Fault.Visits 0
     → 999999999 ≤ last_in t
 only-visits = refusals.only-last
 
 -- and no refusal else
-pub else-opened : (t text : List ℕ) → whole t ≡ true → is_bad (read_job text).status ≡ false → (i : ℕ) → i < 8
-    → is_free (room_at t i).standing ≡ true → last_in t < 999999999 → open_status t text ≡ Status.Done
+pub else-opened : (t text : List ℕ) → whole t ≡ true → is_bad (status_of (read_job text)) ≡ false → (i : ℕ) → i < 8
+    → is_free (room_at t i).standing ≡ true → last_in t < 999999999 → open_status t text ≡ Ok tt
 else-opened t text e right i l free = opening.is-opened t text e right (refusals.some_left t i l free)
 
 -- "other calls, 15 for a slot or visit not open, next after 16,"
 pub then-not-open : (t : List ℕ) (slot visit : ℕ) → whole t ≡ true
-    → ((held_status t slot visit ≡ Status.Done) × HeldAt t slot visit)
-    ⊎ (held_status t slot visit ≡ Status.Refused Fault.NotOpen 0)
+    → ((held_status t slot visit ≡ Ok tt) × HeldAt t slot visit)
+    ⊎ (held_status t slot visit ≡ refused Fault.NotOpen 0)
 then-not-open = refusals.open-or-not
 
 -- "No refusal changes the table."

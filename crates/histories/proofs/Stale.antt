@@ -9,7 +9,6 @@ use lib.Dec.{eqb, ltb}
 use borrow.Author.Tests.{lt-ltb, le-ltb}
 use Rattle.digits.proofs.Cases.{either, same_or}
 use Rattle.faults.specs.declared.Fault.{Fault}
-use Rattle.faults.specs.declared.Status.{Status}
 use Rattle.faults.specs.Checks.{is_bad, bad_unless, on_line, and_then}
 use Rattle.cells.specs.Cells.{cell, zeros}
 use Rattle.result_form.specs.ResultShows.{show_result}
@@ -25,6 +24,7 @@ use Rattle.histories.proofs.After.{close-own, close_other, close-last}
 use Rattle.histories.proofs.Formed.{opened-own, opened-other, opened-last}
 use Rattle.histories.proofs.Formed.{moved-own, moved_other, moved-last}
 use Rattle.histories.proofs.Isolated.{open-cases, step-cases, close-cases}
+use Rattle.std.specs.Prelude.{Ok}
 
 -- slot k is none, or does not hold visit v
 record Gone (t : List ℕ) (k v : ℕ) : Type 0 where
@@ -76,7 +76,7 @@ module _ (t : List ℕ) (k v : ℕ) (g : Gone t k v) where
     gone = λ l. ap (λ (room : Room). holds room v) (same l) ∙ g.gone l;
   }
 
-  open_gone : (text : List ℕ) → open_status t text ≡ Status.Done → Is (opened t text)
+  open_gone : (text : List ℕ) → open_status t text ≡ Ok tt → Is (opened t text)
   open_gone text done =
       let last = opened-last t text done in
       same_or k (lowest_free t) (λ e. record {

@@ -71,4 +71,4 @@ reads_after t text h = (room_at (after_all (opened t text) h) (lowest_free t)).r
 -- and the box of that
 abbrev pub box_after : List ℕ → List ℕ → List Call → List Interval
 box_after t text h =
-    box_of (read_job text).job.head.n (record { lo = (reads_after t text h).lo; hi = (reads_after t text h).hi })
+    box_of (job_in (read_job text)).head.n (record { lo = (reads_after t text h).lo; hi = (reads_after t text h).hi })

@@ -6,7 +6,7 @@ use mathlib.Core.Logic.{◌↔◌}
 use lib.ListN.{length}
 use Rattle.sizes.specs.Sizes.{text_max}
 use Rattle.faults.specs.declared.Fault.{Fault}
-use Rattle.faults.specs.declared.Status.{Status}
+use Rattle.faults.specs.Checked.{Status, refused}
 use Rattle.checks.specs.Checks.{check_job}
 use Rattle.jobs.specs.Zero.{no_job}
 use Rattle.jobs.specs.declared.Job.{Job}
@@ -23,6 +23,7 @@ use Rattle.job_form.specs.Live.{live}
 use Rattle.job_form.proofs.Reached.{Has, Spelt}
 use Rattle.job_form.proofs.Trips.{laws}
 use Rattle.job_form.proofs.Trips as trips
+use Rattle.std.specs.Prelude.{Ok}
 
 pub answer-status : (a : Answer Fault Job) → (job_answer a).status ≡ status_of a
 answer-status (Answer.done j) = refl
@@ -33,28 +34,28 @@ pub line-number : (t : List ℕ) (f : Fault) (n : ℕ) (b : Refused job_form_of 
 line-number = numbered job_form_of job_shows Has Spelt laws
 
 module _ (t : List ℕ) where
-  pub read-status : (read_job t).status ≡ status_of (read job_form_of t)
+  pub read-status : status_of (read_job t) ≡ status_of (read job_form_of t)
   unfolding read_job
   read-status = answer-status (read job_form_of t)
 
-  pub whole : (read_job t).status ≡ Status.Done → read_job t ≡ record { status = Status.Done; job = (read_job t).job }
-  whole e = ap (λ (st : Status). record { status = st; job = (read_job t).job }) e
+  pub whole : status_of (read_job t) ≡ Ok tt → read_job t ≡ Ok ((job_in (read_job t)))
+  whole e = ap (λ (st : Status). record { status = st; job = (job_in (read_job t)) }) e
 
   -- what is read without fault has none, and is written as it was
-  pub read-checked : (read_job t).status ≡ Status.Done → check_job (read_job t).job ≡ Status.Done
-  read-checked e = (trips.write_read t (read_job t).job (whole e)).1
+  pub read-checked : status_of (read_job t) ≡ Ok tt → check_job (job_in (read_job t)) ≡ Ok tt
+  read-checked e = (trips.write_read t (job_in (read_job t)) (whole e)).1
 
-  pub read_same : (read_job t).status ≡ Status.Done → job_bytes (read_job t).job ≡ t
-  read_same e = (trips.write_read t (read_job t).job (whole e)).0
+  pub read_same : status_of (read_job t) ≡ Ok tt → job_bytes (job_in (read_job t)) ≡ t
+  read_same e = (trips.write_read t (job_in (read_job t)) (whole e)).0
 
   pub exactly : (j : Job)
-      → (read_job t ≡ record { status = Status.Done; job = j })
-      ↔ ((job_bytes j ≡ t) × (check_job j ≡ Status.Done) × (live j ≡ j))
+      → (read_job t ≡ Ok j)
+      ↔ ((job_bytes j ≡ t) × (check_job j ≡ Ok tt) × (live j ≡ j))
   unfolding read_job
   exactly j = (trips.write_read t j, λ h. ap job_answer ((trips.exactly t j).1 h))
 
   pub first-bad : (f : Fault) (n : ℕ) → length t ≤ text_max
-      → ((read_job t).status ≡ Status.Refused f n) ↔ Refused job_form_of t f n
+      → (status_of (read_job t) ≡ refused f n) ↔ Refused job_form_of t f n
   first-bad f n h =
       let is = refused-exactly job_form_of t f n h in (
         λ e. is.0 (status-refused (read job_form_of t) f n (sym read-status ∙ e)),
@@ -62,9 +63,9 @@ module _ (t : List ℕ) where
       )
 
 pub decided : (a b : List ℕ) (f : Fault) (n : ℕ) → Decides job_form_of a f n → length (a ++ b) ≤ text_max
-    → read_job (a ++ b) ≡ record { status = Status.Refused f n; job = no_job }
+    → read_job (a ++ b) ≡ refused f n
 unfolding read_job
 decided a b f n d h = ap job_answer (decided-text job_form_of a b f n d h)
 
-pub same-order : (j : Job) → Spelled j → length (job_bytes j) ≤ text_max → (read_job (job_bytes j)).status ≡ check_job j
+pub same-order : (j : Job) → Spelled j → length (job_bytes j) ≤ text_max → status_of (read_job (job_bytes j)) ≡ check_job j
 same-order j s h = read-status (job_bytes j) ∙ trips.same-order j s h

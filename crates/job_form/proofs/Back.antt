@@ -17,7 +17,7 @@ use Rattle.jobs.specs.declared.Kind.{Kind}
 use Rattle.jobs.specs.declared.Body.{Body}
 use Rattle.jobs.specs.declared.Job.{Job}
 use Rattle.jobs.specs.declared.JobLine.{JobLine}
-use Rattle.reading.specs.Got.{after}
+use Rattle.reading.specs.Results.{after}
 use Rattle.reading.specs.NumberLines.{placed}
 use Rattle.reading.proofs.Told.{after-after}
 use Rattle.reading.proofs.NumberLines.{count-plain, list-plain}

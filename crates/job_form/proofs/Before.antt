@@ -14,8 +14,8 @@ use Rattle.text.specs.Words.{pin_key}
 use Rattle.text.proofs.Pieces.{cut-fold}
 use Rattle.sizes.specs.Sizes.{text_max}
 use Rattle.faults.specs.declared.Fault.{Fault}
-use Rattle.faults.specs.declared.Status.{Status}
-use Rattle.reading.specs.Got.{Got, after}
+use Rattle.faults.specs.Checked.{Found, status_of}
+use Rattle.reading.specs.Results.{after}
 use Rattle.reading.specs.Lines.{Next, State, Answer, heard, step, begin, opened, more, ended, ended_cut, closed, read}
 use Rattle.reading.specs.Shows.{before, shown}
 use Rattle.reading.proofs.Reading.{was}
@@ -37,6 +37,7 @@ use Rattle.job_form.proofs.Fourth.{pin-last}
 use Rattle.job_form.proofs.Trips.{laws, answer-done}
 use Rattle.job_form.proofs.Answers.{whole}
 use Rattle.job_form.specs.Before.{says_before, form_before, read_before, Unpinned}
+use Rattle.std.specs.Prelude.{Ok, Err}
 
 abbrev Job·State : Type 0
 Job·State = State Fault JobLine Job
@@ -60,11 +61,11 @@ abbrev LateState : Job·State → Type 0
 LateState (State.at k v) = Late k
 LateState (State.bad f n) = Unit {0}
 
-heard-late : {A : Type 0} (n : ℕ) (r : Got Fault A) (put : A → Next JobLine Job) → ((x : A) → Late (put x).kind)
+heard-late : {A : Type 0} (n : ℕ) (r : Found A) (put : A → Next JobLine Job) → ((x : A) → Late (put x).kind)
     → LateState (heard n (after r put))
 unfolding heard after
-heard-late n (Got.got x) put h = h x
-heard-late n (Got.fault f) put h = tt
+heard-late n (Ok x) put h = h x
+heard-late n (Err f) put h = tt
 
 after-late : (i n : ℕ) → Late (after_system i n)
 unfolding after_system
@@ -152,12 +153,12 @@ module _ (held : ℕ) where
       from-fourth (with_unknowns v n) unwritten ls key
 
   -- a line that both readings make the same of, or n
-  from-line : {A : Type 0} (n : ℕ) (r : Got Fault A) (one two : A → Next JobLine Job) (ls : List (List ℕ))
+  from-line : {A : Type 0} (n : ℕ) (r : Found A) (one two : A → Next JobLine Job) (ls : List (List ℕ))
       → ((x : A) → Same (State.at (one x).kind (one x).value) (State.at (two x).kind (two x).value) ls)
       → Same (heard n (after r one)) (heard n (after r two)) ls
   unfolding heard after
-  from-line n (Got.got x) one two ls h = h x
-  from-line n (Got.fault f) one two ls h = from-late ls (State.bad f n) tt
+  from-line n (Ok x) one two ls h = h x
+  from-line n (Err f) one two ls h = from-late ls (State.bad f n) tt
 
   from-third : (v : Job) (ls : List (List ℕ)) → starts_with pin_key (get_or ls 1 []) ≡ false
       → Same (State.at JobLine.Unknowns v) (State.at JobLine.Unknowns v) ls
@@ -224,7 +225,7 @@ module _ (t : List ℕ) (u : Unpinned t) where
   unfolding read_job read_before
   old-read = ap job_answer (read-before t u)
 
-  pub old-last : (read_job t).status ≡ Status.Done
-      → (read_job t).job.head.pin ≡ last_pin (read_job t).job.head.kind (read_job t).job.head.n
+  pub old-last : status_of (read_job t) ≡ Ok tt
+      → (job_in (read_job t)).head.pin ≡ last_pin (job_in (read_job t)).head.kind (job_in (read_job t)).head.n
   unfolding read_job
-  old-last e = last-pinned t (read_job t).job u (answer-done (read job_form_of t) (read_job t).job (whole t e))
+  old-last e = last-pinned t (job_in (read_job t)) u (answer-done (read job_form_of t) (job_in (read_job t)) (whole t e))

@@ -7,7 +7,7 @@ use Rattle.faults.specs.declared.Fault.{Fault}
 use Rattle.jobs.specs.declared.Kind.{Kind}
 use Rattle.jobs.specs.declared.Job.{Job}
 use Rattle.jobs.specs.declared.JobLine.{JobLine}
-use Rattle.reading.specs.Got.{Blamed}
+use Rattle.reading.specs.Results.{Blamed}
 use Rattle.reading.proofs.Blamed.{blamed-fault, blamed-either, blamed-after}
 use Rattle.lines.proofs.Faults.{OfLine, spelling, number-of-line, kind-of-line, unknowns-of-line}
 use Rattle.lines.proofs.Faults.{pin-of-line, low-of-line, high-of-line, inverse-of-line, steps-of-line}

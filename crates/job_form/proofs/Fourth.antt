@@ -11,7 +11,7 @@ use Rattle.sizes.specs.Sizes.{n_max}
 use Rattle.text.specs.Keys.{starts_with}
 use Rattle.text.specs.Words.{pin_key}
 use Rattle.faults.specs.declared.Fault.{Fault}
-use Rattle.faults.specs.declared.Finding.{Finding}
+use Rattle.faults.specs.Checked.{Finding, Found}
 use Rattle.faults.specs.Checks.{first_of}
 use Rattle.faults.proofs.Laws.{fine-then, fine-first, fine-next, fine-unless}
 use Rattle.jobs.specs.declared.Kind.{Kind}
@@ -21,7 +21,7 @@ use Rattle.jobs.specs.Lines.{after_n}
 use Rattle.jobs.specs.Parts.{with_pin, with_lo, last_pin}
 use Rattle.checks.specs.Checks.{pin_check, low_check, line_check}
 use Rattle.term_checks.proofs.RangeLaws.{to_one}
-use Rattle.reading.specs.Got.{Got, after}
+use Rattle.reading.specs.Results.{after}
 use Rattle.reading.specs.Lines.{Next}
 use Rattle.reading.specs.NumberLines.{placed}
 use Rattle.reading.proofs.Told.{after-after}
@@ -36,6 +36,7 @@ use Rattle.job_form.specs.JobForm.{job_says}
 use Rattle.job_form.specs.JobBytes.{pin_written, low_text, job_line, job_next, shown_check}
 use Rattle.job_form.specs.Live.{upto_pin, live_pin, upto_low, job_upto}
 use Rattle.job_form.proofs.Reached.{Sized, Has, SpeltPin}
+use Rattle.std.specs.Prelude.{Ok, Err}
 
 abbrev pub leaves : JobLine → Job → Next JobLine Job
 leaves k j = record { kind = k; value = j }
@@ -60,13 +61,13 @@ unknowns-has j size = go j.head.kind refl
 
 -- ---- the pin, written or not
 
-pub first_alone : (f : Finding) → f ≡ first_of f Finding.Fine
+pub first_alone : (f : Finding) → f ≡ first_of f (Ok tt)
 unfolding first_of
-first_alone Finding.Fine = refl
-first_alone (Finding.Bad f) = refl
+first_alone (Ok tt) = refl
+first_alone (Err f) = refl
 
 -- n is a good pin
-pub last-fine : (n : ℕ) → 0 < n → pin_check Kind.Eigen n n ≡ Finding.Fine
+pub last-fine : (n : ℕ) → 0 < n → pin_check Kind.Eigen n n ≡ Ok tt
 unfolding pin_check
 last-fine n some = fine-unless Fault.Pin (to_one n n some (omega arith))
 
@@ -79,7 +80,7 @@ module _ (j : Job) (eigen : j.head.kind ≡ Kind.Eigen) where
 
 module _ (j : Job) (size : Sized j) (eigen : j.head.kind ≡ Kind.Eigen) where
   -- where it is not written, its check finds nothing
-  pub last-passes : pin_written j ≡ false → pin_check j.head.kind j.head.n j.head.pin ≡ Finding.Fine
+  pub last-passes : pin_written j ≡ false → pin_check j.head.kind j.head.n j.head.pin ≡ Ok tt
   last-passes w =
       ap₂ (λ (k : Kind) (p : ℕ). pin_check k j.head.n p) eigen (pin-last j eigen w)
       ∙ last-fine j.head.n size.0
@@ -95,10 +96,10 @@ module _ (j : Job) (size : Sized j) (eigen : j.head.kind ≡ Kind.Eigen) where
   abbrev finds : Bool → Finding
   finds b =
       first_of (pin_check j.head.kind j.head.n j.head.pin)
-      (cond b Finding.Fine (low_check j.head.n j.ends.lo))
+      (cond b (Ok tt) (low_check j.head.n j.ends.lo))
 
   -- what a line l says there
-  abbrev says_by : List ℕ → Got Fault (Next JobLine Job)
+  abbrev says_by : List ℕ → Found (Next JobLine Job)
   says_by l =
       cond (starts_with pin_key l)
       (after (pin_of j.head.n l) (λ p. leaves JobLine.Lo (with_pin (upto_pin j) p)))
@@ -140,11 +141,11 @@ module _ (j : Job) (size : Sized j) (eigen : j.head.kind ≡ Kind.Eigen) where
       go true w s = says-pin w s
       go false w s = says-low w s
 
-  pub fourth-spelt : found (shown_check JobLine.Pin j) ≡ Got.got tt → SpeltPin (pin_written j) j
+  pub fourth-spelt : found (shown_check JobLine.Pin j) ≡ Ok tt → SpeltPin (pin_written j) j
   unfolding shown_check line_check
   fourth-spelt e = go (pin_written j) (found-fine _ e)
     where
-      go : (b : Bool) → finds b ≡ Finding.Fine → SpeltPin b j
+      go : (b : Bool) → finds b ≡ Ok tt → SpeltPin b j
       go true f =
           pin-spelled j.head.n j.head.pin size.1
           (ap (λ (k : Kind). pin_check k j.head.n j.head.pin) (sym eigen) ∙ fine-first _ _ f)

@@ -9,7 +9,6 @@ use borrow.Author.Tests.{eq-eqb}
 use Rattle.sizes.specs.Sizes.{n_max}
 use Rattle.text.specs.Keys.{starts_with}
 use Rattle.text.specs.Words.{n_key, pin_key, lo_key}
-use Rattle.faults.specs.declared.Finding.{Finding}
 use Rattle.faults.proofs.Laws.{both-fine}
 use Rattle.jobs.specs.declared.Kind.{Kind}
 use Rattle.jobs.specs.declared.Job.{Job}
@@ -18,7 +17,7 @@ use Rattle.jobs.specs.Lines.{after_n}
 use Rattle.jobs.specs.Parts.{with_unknowns, with_pin, with_lo, last_pin}
 use Rattle.checks.specs.Checks.{unknowns_check, low_check, line_check}
 use Rattle.checks.proofs.CheckLaws.{unknowns-fine}
-use Rattle.reading.specs.Got.{after, Told}
+use Rattle.reading.specs.Results.{after, Told}
 use Rattle.reading.specs.NumberLines.{placed}
 use Rattle.reading.specs.Shows.{lines_of, Passed, Kept}
 use Rattle.reading.proofs.Told.{told-after}
@@ -36,6 +35,7 @@ use Rattle.job_form.specs.JobBytes.{pin_written, head_kinds, job_prior, shown_ch
 use Rattle.job_form.specs.Live.{live_pin}
 use Rattle.job_form.proofs.Reached.{Sized, LowStands, Has}
 use Rattle.job_form.proofs.Fourth.{leaves, after-unknowns, unknowns-has, last-passes}
+use Rattle.std.specs.Prelude.{Ok}
 
 -- ---- n
 
@@ -111,7 +111,7 @@ module _ (v : Job) (l : List ℕ) (size : Sized v) (xs : List ℤ)
     last-lines : lines_of job_shows u (head_kinds ++ (JobLine.Pin ∷ [])) ≡ lines_of job_shows v head_kinds ++ (l ∷ [])
     last-lines = rw unwritten (ap (λ (y : List ℕ). lines_of job_shows v head_kinds ++ (y ∷ [])) was.shown)
 
-    last-check : shown_check JobLine.Pin u ≡ Finding.Fine
+    last-check : shown_check JobLine.Pin u ≡ Ok tt
     unfolding shown_check line_check
     last-check = rw unwritten (both-fine (last-passes v size eigen unwritten) (found-fine _ was.fine))
 
@@ -146,7 +146,7 @@ module _ (v : Job) (l : List ℕ) (size : Sized v) (eigen : v.head.kind ≡ Kind
         let u = with_pin v pin in
         let written : pin_written u ≡ true = rw eigen (ap not e.other) in
         let prior : job_prior JobLine.Lo u ≡ head_kinds ++ (JobLine.Pin ∷ []) = rw written in
-        let check : shown_check JobLine.Pin u ≡ Finding.Fine =
+        let check : shown_check JobLine.Pin u ≡ (Ok tt) =
         rw (written, eigen) (both-fine (found-fine _ e.was.fine) refl) in
         record {
           lines = ap (lines_of job_shows u) prior

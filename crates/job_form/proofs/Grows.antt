@@ -11,7 +11,7 @@ use Rattle.checks.specs.Checks.{system_check, line_check}
 use Rattle.jobs.specs.declared.Body.{Body}
 use Rattle.jobs.specs.declared.Job.{Job}
 use Rattle.jobs.specs.declared.JobLine.{JobLine}
-use Rattle.reading.specs.Got.{Got, Told}
+use Rattle.reading.specs.Results.{Told}
 use Rattle.reading.specs.Shows.{lines_of, before, Passed, Kept}
 use Rattle.reading.proofs.Told.{told-fault, told-after}
 use Rattle.reading.proofs.Trips.{Grown, line_same}
@@ -31,6 +31,7 @@ use Rattle.job_form.proofs.Lows.{Alike, alike-lines, alike-passed}
 use Rattle.job_form.proofs.Lows.{low_alike, high-alike, inverse-alike, box-alike}
 use Rattle.job_form.proofs.FourthRead.{unknowns-grown, fourth-grows, low-grown}
 use Rattle.job_form.proofs.Back.{after-upto, after-has, upto-none}
+use Rattle.std.specs.Prelude.{Ok}
 
 -- ---- a line of the system
 
@@ -107,7 +108,7 @@ module _ (v : Job) (i : ℕ) (l : List ℕ) (size : Sized v) (live : i < v.head.
         ∙ ap (said_text v.head.kind v.head.n) (at_same v.head.n i room v.head.kind v.system x only)
         ∙ e.shown
 
-    check-put : found (system_check v.head.kind put i) ≡ Got.got tt
+    check-put : found (system_check v.head.kind put i) ≡ Ok tt
     unfolding put s
     check-put =
         ap found (check-is v.head.kind put i

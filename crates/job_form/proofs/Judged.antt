@@ -4,8 +4,7 @@ use Prim.Native.Nat.{ℕ, zero, suc, ◌+◌}
 use mathlib.Core.Path.{◌≡◌, refl, sym, ap, ◌∙◌}
 use mathlib.Core.List.{List, [], ◌∷◌, ◌++◌, append-nil}
 use mathlib.Core.Bool.{Bool, true, false, cond}
-use Rattle.faults.specs.declared.Status.{Status}
-use Rattle.faults.specs.declared.Finding.{Finding}
+use Rattle.faults.specs.Checked.{Status, Finding}
 use Rattle.faults.specs.Checks.{first_of, and_then}
 use Rattle.faults.specs.Checks as checks
 use Rattle.faults.proofs.Laws.{then-assoc, fine-skips, line_first}
@@ -27,11 +26,12 @@ use Rattle.job_form.specs.Live.{live_pin, job_upto}
 use Rattle.job_form.proofs.Order.{kinds-rest, Shape, shape}
 use Rattle.job_form.proofs.Fourth.{first_alone}
 use Rattle.job_form.proofs.Lows.{plain-pin}
+use Rattle.std.specs.Prelude.{Ok, Err}
 
-then-done : (s : Status) → and_then s Status.Done ≡ s
+then-done : (s : Status) → and_then s Ok tt ≡ s
 unfolding and_then
-then-done Status.Done = refl
-then-done (Status.Refused f n) = refl
+then-done (Ok tt) = refl
+then-done (Err r) = refl
 
 -- a line's number, from what is read by then and from the whole
 live-stands : (k : Kind) (n pin : ℕ) → pin_stands k n (live_pin k pin) ≡ pin_stands k n pin
@@ -83,7 +83,7 @@ module _ (j : Job) where
       ∙ system-status m (JobLine.System m ∷ ks) (and_then line s) one
       ∙ sym (then-assoc (system_to m) line s)
 
-  none-status : status_from [] ≡ Status.Done
+  none-status : status_from [] ≡ Ok tt
   unfolding findings
   none-status = refl
 
@@ -98,7 +98,7 @@ module _ (j : Job) where
   high-status =
       line-status JobLine.Hi _ (line-status JobLine.Inv _ (line-status JobLine.Steps _
       (ap status_from (sym (append-nil (system_kinds j.head.n)))
-      ∙ system-status j.head.n [] Status.Done none-status
+      ∙ system-status j.head.n [] (Ok tt) none-status
       ∙ then-done _)))
 
   -- from the line after n on: lo, lo in the pin's place, or the pin and lo

@@ -5,7 +5,6 @@ use mathlib.Core.Path.{◌≡◌, refl, sym, ap, ap₂, ◌∙◌}
 use mathlib.Core.List.{List, [], ◌∷◌, ◌++◌, map-append}
 use mathlib.Core.Bool.{Bool, true, false, cond}
 use lib.IntN.{ℤ}
-use Rattle.faults.specs.declared.Finding.{Finding}
 use Rattle.faults.specs.Checks.{first_of}
 use Rattle.faults.proofs.Laws.{fine-first, fine-next, both-fine}
 use Rattle.text.specs.Words.{job_key, n_key, pin_key, lo_key, hi_key, steps_key}
@@ -17,7 +16,6 @@ use Rattle.jobs.specs.declared.JobLine.{JobLine}
 use Rattle.jobs.specs.Lines.{pin_stands, after_n}
 use Rattle.checks.specs.Checks.{number_check, unknowns_check, pin_check, low_check, inverse_check, steps_check}
 use Rattle.checks.specs.Checks.{line_check}
-use Rattle.reading.specs.Got.{Got}
 use Rattle.reading.specs.Shows.{lines_of, Passed}
 use Rattle.reading.proofs.Walk.{passed-join, passed-front, passed-rest}
 use Rattle.lines.specs.Found.{found}
@@ -26,6 +24,7 @@ use Rattle.lines.proofs.Found.{found-fine}
 use Rattle.job_form.specs.JobBytes.{pin_written, low_kinds, high_kinds, inverse_kinds, box_kinds}
 use Rattle.job_form.specs.JobBytes.{job_line, shown_check, job_shows}
 use Rattle.job_form.proofs.Order.{Shape, shape}
+use Rattle.std.specs.Prelude.{Ok}
 
 -- ---- the lines
 
@@ -50,13 +49,13 @@ low-lines-are j = go (shape j)
 -- ---- their checks
 
 pub record LowFine (h : Head) (lo : List ℤ) : Type 0 where
-  pub number : number_check h.number ≡ Finding.Fine
-  pub unknowns : unknowns_check h.n ≡ Finding.Fine
-  pub pin : pin_check h.kind h.n h.pin ≡ Finding.Fine
-  pub low : low_check h.n lo ≡ Finding.Fine
+  pub number : number_check h.number ≡ Ok tt
+  pub unknowns : unknowns_check h.n ≡ Ok tt
+  pub pin : pin_check h.kind h.n h.pin ≡ Ok tt
+  pub low : low_check h.n lo ≡ Ok tt
 
 -- no eigenpair's job: whatever its pin is
-pub plain-pin : (k : Kind) (n pin : ℕ) → after_n k ≡ JobLine.Lo → pin_check k n pin ≡ Finding.Fine
+pub plain-pin : (k : Kind) (n pin : ℕ) → after_n k ≡ JobLine.Lo → pin_check k n pin ≡ Ok tt
 unfolding pin_check
 plain-pin Kind.Poly n pin e = refl
 plain-pin Kind.Linear n pin e = refl
@@ -64,14 +63,14 @@ plain-pin Kind.Eigen n pin e = absurd (let z : ◌≡◌ {A = ℕ} 0 1 = cc in o
 
 module _ (j : Job) where
   abbrev Checks : JobLine → Type 0
-  Checks k = found (shown_check k j) ≡ Got.got tt
+  Checks k = found (shown_check k j) ≡ Ok tt
 
   pub passed-fine : Passed job_shows (low_kinds j) j → LowFine j.head j.ends.lo
   unfolding shown_check line_check
   passed-fine p = go (shape j) p.1.1.1
     where
-      all : pin_check j.head.kind j.head.n j.head.pin ≡ Finding.Fine
-          → low_check j.head.n j.ends.lo ≡ Finding.Fine → LowFine j.head j.ends.lo
+      all : pin_check j.head.kind j.head.n j.head.pin ≡ Ok tt
+          → low_check j.head.n j.ends.lo ≡ Ok tt → LowFine j.head j.ends.lo
       all pin low = record {
         number = found-fine _ p.0;
         unknowns = found-fine _ p.1.1.0;
@@ -85,11 +84,11 @@ module _ (j : Job) where
           all (plain-pin j.head.kind j.head.n j.head.pin e) (found-fine _ (rw e at q.0))
       go (Shape.last e b) q =
           let f : first_of (pin_check j.head.kind j.head.n j.head.pin)
-          (low_check j.head.n j.ends.lo) ≡ Finding.Fine =
+          (low_check j.head.n j.ends.lo) ≡ (Ok tt) =
           found-fine _ (rw (ap after_n e, b) at q.0) in
           all (fine-first _ _ f) (fine-next _ _ f)
       go (Shape.pinned e b) q =
-          let f : first_of (pin_check j.head.kind j.head.n j.head.pin) Finding.Fine ≡ Finding.Fine =
+          let f : first_of (pin_check j.head.kind j.head.n j.head.pin) Ok tt ≡ (Ok tt) =
           found-fine _ (rw (ap after_n e, b) at q.0) in
           all (fine-first _ _ f) (found-fine _ (rw b at q.1).0)
 
@@ -133,7 +132,7 @@ module _ (v u : Job) where
           (ap found check ∙ (passed-rest job_shows v ks (k ∷ []) p).0, tt);
     }
 
-    pub alike-passed : Passed job_shows ks v → found (shown_check k u) ≡ Got.got tt
+    pub alike-passed : Passed job_shows ks v → found (shown_check k u) ≡ Ok tt
         → Passed job_shows (ls ++ (k ∷ [])) u
     alike-passed p e = passed-join job_shows u ls (k ∷ []) (a.passed p) (e, tt)
 

@@ -11,7 +11,7 @@ use Rattle.lists.specs.Loops.{tab}
 use Rattle.lists.proofs.Tab.{length-tab, tab-none, tab-more, tab-cong}
 use Rattle.text.specs.Words.{row_key}
 use Rattle.faults.specs.declared.Fault.{Fault}
-use Rattle.faults.specs.declared.Finding.{Finding}
+use Rattle.faults.specs.Checked.{Finding, Found}
 use Rattle.jobs.specs.Places.{no_equation, row_at, equation_at}
 use Rattle.jobs.specs.Zero.{zero_equation, zero_row, zero_body}
 use Rattle.jobs.specs.Parts.{with_system}
@@ -21,7 +21,7 @@ use Rattle.jobs.specs.declared.Row.{Row}
 use Rattle.jobs.specs.declared.Equation.{Equation}
 use Rattle.jobs.specs.declared.Body.{Body}
 use Rattle.jobs.specs.declared.Job.{Job}
-use Rattle.reading.specs.Got.{Got, after, Told}
+use Rattle.reading.specs.Results.{after, Told}
 use Rattle.reading.specs.NumberLines.{placed}
 use Rattle.term_write.specs.ShowTerms.{equation_text}
 use Rattle.term_round.specs.Live.{live_equation}
@@ -37,6 +37,7 @@ use Rattle.lines.proofs.Equations.{equation-back, equation-told, equation-spelle
 use Rattle.job_form.specs.JobForm.{after_system, system_says}
 use Rattle.job_form.specs.JobBytes.{system_text, SpelledLine}
 use Rattle.job_form.specs.Live.{live_system}
+use Rattle.std.specs.Prelude.{Ok}
 
 -- ---- what a line says, by its kind
 
@@ -45,7 +46,7 @@ Said Kind.Poly = Equation
 Said Kind.Linear = Sided
 Said Kind.Eigen = List ℤ
 
-abbrev pub said_of : (k : Kind) → ℕ → List ℕ → Got Fault (Said k)
+abbrev pub said_of : (k : Kind) → ℕ → List ℕ → Found (Said k)
 said_of Kind.Poly n l = equation_of n l
 said_of Kind.Linear n l = sided_of n l
 said_of Kind.Eigen n l = row_of n l
@@ -114,7 +115,7 @@ said-back Kind.Linear j i some few s =
     sided-back j.head.n some few (row_at j.system.rows i) (get_or j.system.right i (pos 0)) s
 said-back Kind.Eigen j i some few s = row_back j.head.n some few (row_at j.system.rows i) s
 
-pub said-spelled : (k : Kind) (j : Job) (i : ℕ) → system_check k j i ≡ Finding.Fine → SpelledLine k j i
+pub said-spelled : (k : Kind) (j : Job) (i : ℕ) → system_check k j i ≡ Ok tt → SpelledLine k j i
 unfolding system_check
 said-spelled Kind.Poly j i e = equation-spelled j.head.n (equation_at j.system.eqs i) e
 said-spelled Kind.Linear j i e =

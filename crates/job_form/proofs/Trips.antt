@@ -8,7 +8,7 @@ use mathlib.Core.Bool.{Bool, true, false}
 use lib.ListN.{length}
 use Rattle.sizes.specs.Sizes.{text_max}
 use Rattle.faults.specs.declared.Fault.{Fault}
-use Rattle.faults.specs.declared.Status.{Status}
+use Rattle.faults.specs.Checked.{Checked}
 use Rattle.checks.specs.Checks.{check_job}
 use Rattle.jobs.specs.declared.Job.{Job}
 use Rattle.jobs.specs.declared.JobLine.{JobLine}
@@ -17,7 +17,6 @@ use Rattle.reading.specs.Shows.{Passed}
 use Rattle.reading.proofs.Trips.{Laws}
 use Rattle.lines.proofs.Trips as trips
 use Rattle.lines.specs.Found.{status_of}
-use Rattle.job_form.specs.declared.JobRead.{JobRead}
 use Rattle.job_form.specs.JobForm.{job_form_of, job_answer, read_job}
 use Rattle.job_form.specs.JobBytes.{pin_written, job_prior, job_shows, job_bytes, Spelled}
 use Rattle.job_form.specs.Live.{live}
@@ -27,6 +26,7 @@ use Rattle.job_form.proofs.Back.{law, plain}
 use Rattle.job_form.proofs.Grows.{grows}
 use Rattle.job_form.proofs.Judged.{judged-status}
 use Rattle.job_form.proofs.Short.{passed-short}
+use Rattle.std.specs.Prelude.{Ok}
 
 pub laws : Laws job_form_of job_shows Has Spelt
 laws = record {
@@ -65,35 +65,35 @@ same-order j s h = trips.same-order job_form_of job_shows Has Spelt laws check_j
 
 -- ---- both ways
 
-pub checked-passed : (j : Job) → check_job j ≡ Status.Done → Passed job_shows (job_prior JobLine.End j) j
+pub checked-passed : (j : Job) → check_job j ≡ Ok tt → Passed job_shows (job_prior JobLine.End j) j
 checked-passed = trips.done-passed job_form_of job_shows Has Spelt laws check_job judged-status
 
 -- no job without fault is longer than a text may be
-pub job-short : (j : Job) → check_job j ≡ Status.Done → length (job_bytes j) ≤ text_max
+pub job-short : (j : Job) → check_job j ≡ Ok tt → length (job_bytes j) ≤ text_max
 job-short j e = passed-short j (checked-passed j e)
 
 -- "Values to text to values gives the same values in the live places."
-pub read-write : (j : Job) → check_job j ≡ Status.Done
-    → read_job (job_bytes j) ≡ record { status = Status.Done; job = live j }
+pub read-write : (j : Job) → check_job j ≡ Ok tt
+    → read_job (job_bytes j) ≡ Ok (live j)
 unfolding read_job
 read-write j e = ap job_answer (trips.read-write job_form_of job_shows Has Spelt laws check_job judged-status j e)
 
 -- "Text to values to text gives the same bytes": a text is read without fault exactly where it is the bytes of a job
 -- that has none and is zero in its dead places
 pub exactly : (t : List ℕ) (j : Job)
-    → (read job_form_of t ≡ Answer.done j) ↔ ((job_bytes j ≡ t) × (check_job j ≡ Status.Done) × (live j ≡ j))
+    → (read job_form_of t ≡ Answer.done j) ↔ ((job_bytes j ≡ t) × (check_job j ≡ Ok tt) × (live j ≡ j))
 exactly = trips.exactly job_form_of job_shows Has Spelt laws check_job judged-status
 
-pub answer-done : (a : Answer Fault Job) (j : Job) → job_answer a ≡ record { status = Status.Done; job = j }
+pub answer-done : (a : Answer Fault Job) (j : Job) → job_answer a ≡ Ok j
     → a ≡ Answer.done j
-answer-done (Answer.done x) j e = ap (λ (r : JobRead). Answer.done r.job) e
+answer-done (Answer.done x) j e = ap (λ (r : Checked Job). Answer.done r.job) e
 answer-done (Answer.refused f n) j e =
-    let status = ap (λ (r : JobRead). r.status) e in
+    let status = ap (λ (r : Checked Job). r.status) e in
     let z : ◌≡◌ {A = ℕ} 0 1 = cc in
     absurd (omega arith)
 
 -- what the reader takes, the writer takes, and writes as it stood
-pub write_read : (t : List ℕ) (j : Job) → read_job t ≡ record { status = Status.Done; job = j }
-    → (job_bytes j ≡ t) × (check_job j ≡ Status.Done) × (live j ≡ j)
+pub write_read : (t : List ℕ) (j : Job) → read_job t ≡ Ok j
+    → (job_bytes j ≡ t) × (check_job j ≡ Ok tt) × (live j ≡ j)
 unfolding read_job
 write_read t j e = (exactly t j).0 (answer-done (read job_form_of t) j e)

@@ -6,17 +6,17 @@ use Rattle.text.specs.Cut.{pieces}
 use Rattle.text.specs.Keys.{starts_with}
 use Rattle.text.specs.Words.{pin_key}
 use Rattle.faults.specs.declared.Fault.{Fault}
-use Rattle.reading.specs.Got.{Got, after}
+use Rattle.reading.specs.Results.{after}
 use Rattle.reading.specs.Lines.{Next, Form, read}
 use Rattle.jobs.specs.declared.Job.{Job}
 use Rattle.jobs.specs.declared.JobLine.{JobLine}
 use Rattle.jobs.specs.Parts.{with_unknowns}
 use Rattle.lines.specs.Lines.{unknowns_of}
-use Rattle.job_form.specs.declared.JobRead.{JobRead}
 use Rattle.job_form.specs.JobForm.{job_says, job_form_of, job_answer}
+use Rattle.faults.specs.Checked.{Found, Checked}
 
 -- "Order: job, kind, n, lo, hi, inv, steps, then n lines."
-unfoldable pub says_before : JobLine → Job → List ℕ → Got Fault (Next JobLine Job)
+unfoldable pub says_before : JobLine → Job → List ℕ → Found (Next JobLine Job)
 says_before JobLine.Number j l = job_says JobLine.Number j l
 says_before JobLine.Kind j l = job_says JobLine.Kind j l
 says_before JobLine.Unknowns j l = after (unknowns_of l) (λ n. record { kind = JobLine.Lo; value = with_unknowns j n })
@@ -40,7 +40,7 @@ form_before = record {
   odd = job_form_of.odd;
 }
 
-unfoldable pub read_before : List ℕ → JobRead
+unfoldable pub read_before : List ℕ → (Checked Job)
 read_before t = job_answer (read form_before t)
 
 -- a text without a pin line: its fourth line, if it has one, begins otherwise

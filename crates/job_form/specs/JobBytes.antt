@@ -1,8 +1,8 @@
 -- How a job is written, what is read of it before each line, and what its checks find. Document 01: "Order: job, kind,
 -- n, lo, hi, inv, steps, then n lines."
-use Rattle.std.specs.Prelude.{ℕ, zero, suc, ◌<◌, ◌^◌, List, [], ◌∷◌, ◌++◌, Bool, cond, get_or, ltb, pos}
+use Rattle.std.specs.Prelude.{ℕ, zero, suc, ◌<◌, ◌^◌, List, [], ◌∷◌, ◌++◌, Bool, cond, get_or, ltb, pos, Ok}
 use Rattle.faults.specs.declared.Fault.{Fault}
-use Rattle.faults.specs.declared.Finding.{Finding}
+use Rattle.faults.specs.Checked.{Finding}
 use Rattle.faults.specs.Checks.{first_of}
 use Rattle.digits.specs.Number.{digits_max}
 use Rattle.text.specs.Lists.{Small}
@@ -107,13 +107,13 @@ shown_check JobLine.Number j = line_check JobLine.Number j
 shown_check JobLine.Kind j = line_check JobLine.Kind j
 shown_check JobLine.Unknowns j = line_check JobLine.Unknowns j
 shown_check JobLine.Pin j =
-    first_of (line_check JobLine.Pin j) (cond (pin_written j) Finding.Fine (line_check JobLine.Lo j))
+    first_of (line_check JobLine.Pin j) (cond (pin_written j) (Ok tt) (line_check JobLine.Lo j))
 shown_check JobLine.Lo j = line_check JobLine.Lo j
 shown_check JobLine.Hi j = line_check JobLine.Hi j
 shown_check JobLine.Inv j = line_check JobLine.Inv j
 shown_check JobLine.Steps j = line_check JobLine.Steps j
 shown_check (JobLine.System i) j = line_check (JobLine.System i) j
-shown_check JobLine.End j = Finding.Fine
+shown_check JobLine.End j = Ok tt
 
 abbrev pub job_shows : Shows Fault JobLine Job
 job_shows = record {

@@ -1,13 +1,13 @@
 -- What a job text means: document 01, "The job text and the result text". "Order: job, kind, n, lo, hi, inv, steps,
 -- then n lines." Document 02, P2: a line `pin=` after `n`. What each kind of line says stands in crate lines, its
 -- number in crate jobs.
-use Rattle.std.specs.Prelude.{ℕ, ◌+◌, List, Bool, true, false, cond, ltb}
+use Rattle.std.specs.Prelude.{ℕ, ◌+◌, List, Bool, true, false, cond, ltb, Ok}
 use Rattle.sizes.specs.Sizes.{text_max}
 use Rattle.text.specs.Keys.{starts_with}
 use Rattle.text.specs.Words.{pin_key}
 use Rattle.faults.specs.declared.Fault.{Fault}
-use Rattle.faults.specs.declared.Status.{Status}
-use Rattle.reading.specs.Got.{Got, after}
+use Rattle.faults.specs.Checked.{Status, Found, Checked, refused}
+use Rattle.reading.specs.Results.{after}
 use Rattle.reading.specs.Lines.{Next, Form, Answer, read}
 use Rattle.jobs.specs.declared.Kind.{Kind}
 use Rattle.jobs.specs.declared.Job.{Job}
@@ -19,10 +19,9 @@ use Rattle.lines.specs.Lines.{equation_of, row_of, Sided, sided_of, misspelled}
 use Rattle.jobs.specs.Parts.{with_number, with_kind, with_unknowns, with_pin, with_lo, with_hi, with_inverse}
 use Rattle.jobs.specs.Parts.{with_steps}
 use Rattle.jobs.specs.Parts.{with_equation, with_row, with_side}
-use Rattle.job_form.specs.declared.JobRead.{JobRead}
 
 -- a line that leaves what it says in the job, and the kind of the next one
-abbrev to : {A : Type 0} → JobLine → (A → Job) → Got Fault A → Got Fault (Next JobLine Job)
+abbrev to : {A : Type 0} → JobLine → (A → Job) → Found A → Found (Next JobLine Job)
 to k put said = after said (λ x. record { kind = k; value = put x })
 
 abbrev pub with_sided : Job → ℕ → Sided → Job
@@ -34,16 +33,16 @@ after_system i n = cond (ltb (i + 1) n) (JobLine.System (i + 1)) JobLine.End
 
 -- "A `poly` job has `eq` lines", "A `linear` job has `row` lines of n + 1 numbers, the right side last", "an `eigen`
 -- job has `row` lines of n"
-unfoldable pub system_says : Kind → ℕ → Job → List ℕ → Got Fault (Next JobLine Job)
+unfoldable pub system_says : Kind → ℕ → Job → List ℕ → Found (Next JobLine Job)
 system_says Kind.Poly i j l = to (after_system i j.head.n) (with_equation j i) (equation_of j.head.n l)
 system_says Kind.Linear i j l = to (after_system i j.head.n) (with_sided j i) (sided_of j.head.n l)
 system_says Kind.Eigen i j l = to (after_system i j.head.n) (with_row j i) (row_of j.head.n l)
 
-abbrev pub low_says : Job → List ℕ → Got Fault (Next JobLine Job)
+abbrev pub low_says : Job → List ℕ → Found (Next JobLine Job)
 low_says j l = to JobLine.Hi (with_lo j) (low_of j.head.n l)
 
 -- "Eigen jobs, and no others, get a line `pin=` after `n`"; "Without the line the last is pinned", and lo stands there
-unfoldable pub job_says : JobLine → Job → List ℕ → Got Fault (Next JobLine Job)
+unfoldable pub job_says : JobLine → Job → List ℕ → Found (Next JobLine Job)
 job_says JobLine.Number j l = to JobLine.Kind (with_number j) (number_of l)
 job_says JobLine.Kind j l = to JobLine.Unknowns (with_kind j) (kind_of l)
 job_says JobLine.Unknowns j l = to (after_n j.head.kind) (with_unknowns j) (unknowns_of l)
@@ -81,12 +80,12 @@ job_form_of = record {
 }
 
 -- "everything is zero beside a fault"
-abbrev pub refused_with : Status → JobRead
+abbrev pub refused_with : Status → (Checked Job)
 refused_with st = record { status = st; job = no_job }
 
-abbrev pub job_answer : Answer Fault Job → JobRead
-job_answer (Answer.done j) = record { status = Status.Done; job = j }
-job_answer (Answer.refused f n) = refused_with (Status.Refused f n)
+abbrev pub job_answer : Answer Fault Job → (Checked Job)
+job_answer (Answer.done j) = Ok j
+job_answer (Answer.refused f n) = refused f n
 
-unfoldable pub read_job : List ℕ → JobRead
+unfoldable pub read_job : List ℕ → (Checked Job)
 read_job t = job_answer (read job_form_of t)

@@ -6,7 +6,7 @@ use mathlib.Core.Bool.{true, false}
 use borrow.Author.Tests.{lt-ltb, le-ltb, eq-eqb, ne_eqb}
 use Rattle.sizes.specs.Sizes.{text_max}
 use Rattle.faults.specs.declared.Fault.{Fault}
-use Rattle.faults.specs.declared.Status.{Status}
+use Rattle.faults.specs.Checked.{refused}
 use Rattle.faults.specs.Words.{fault_of}
 use Rattle.reading.specs.Lines.{ended}
 use Rattle.jobs.specs.declared.JobLine.{JobLine}
@@ -17,6 +17,7 @@ use Rattle.next_line.specs.State.{place_of, line_in, head_of, job_of, state_of}
 use Rattle.job_parts.specs.Limits.{fits}
 use Rattle.job_parts.specs.Parts.{beyond_limits, whole, end_of}
 use Rattle.next_line.proofs.Rooms.{place-back}
+use Rattle.std.specs.Prelude.{Ok}
 
 -- only place 0 has no line
 not_end : (k : ℕ) → (k ≡ 0 → ⊥) → job_end (line_in k) ≡ false
@@ -41,13 +42,13 @@ module _ (p : Parts) where
 
   module _ (fit : fits p ≡ true) where
     -- "Fault 1 comes first"
-    pub end-long : text_max < p.size → refused_with (Status.Refused Fault.LongText 0) ≡ end_of p
+    pub end-long : text_max < p.size → refused Fault.LongText 0 ≡ end_of p
     unfolding end_of whole
     end-long h = rw (fit, lt-ltb text_max p.size h)
 
     module _ (few : p.size ≤ text_max) where
       pub end-bad : (p.read.fault ≡ 0 → ⊥)
-          → refused_with (Status.Refused (fault_of p.read.fault) p.read.line) ≡ end_of p
+          → refused (fault_of p.read.fault) p.read.line ≡ end_of p
       unfolding end_of whole state_of ended
       end-bad n = rw (fit, le-ltb text_max p.size few, ne_eqb p.read.fault 0 n)
 
@@ -55,7 +56,7 @@ module _ (p : Parts) where
         abbrev missing : ℕ
         missing = job_number (line_in p.read.next) (head_of p.read)
 
-        pub end-held : 0 < p.held → refused_with (Status.Refused Fault.Spelling missing) ≡ end_of p
+        pub end-held : 0 < p.held → refused Fault.Spelling missing ≡ end_of p
         unfolding end_of whole state_of ended
         end-held h =
             rw (
@@ -66,7 +67,7 @@ module _ (p : Parts) where
             )
 
         pub end-missing : p.held ≤ 0 → (p.read.next ≡ 0 → ⊥)
-            → refused_with (Status.Refused Fault.Spelling missing) ≡ end_of p
+            → refused Fault.Spelling missing ≡ end_of p
         unfolding end_of whole state_of ended
         end-missing h n =
             rw (
@@ -78,7 +79,7 @@ module _ (p : Parts) where
             )
 
         pub end-done : p.held ≤ 0 → p.read.next ≡ 0
-            → record { status = Status.Done; job = job_of p.read } ≡ end_of p
+            → Ok (job_of p.read) ≡ end_of p
         unfolding end_of whole state_of ended line_in
         end-done h e =
             rw (

@@ -1,13 +1,12 @@
 -- Document 02, P1: "a reader that takes a job's text in parts of any length, zero included, and answers only when told
 -- the text has ended. .. It may hold only one line and what is already read."
-use Rattle.std.specs.Prelude.{ℕ, ◌+◌, cond, set, replicate, eqb, ltb}
+use Rattle.std.specs.Prelude.{ℕ, ◌+◌, cond, set, replicate, eqb, ltb, Ok}
 use mathlib.Core.List.{List, foldl}
 use Rattle.sizes.specs.Sizes.{text_max}
 use Rattle.faults.specs.declared.Fault.{Fault}
-use Rattle.faults.specs.declared.Status.{Status}
+use Rattle.faults.specs.Checked.{Status, Checked, refused}
 use Rattle.digits.specs.Bytes.{line_feed}
 use Rattle.reading.specs.Lines.{ended}
-use Rattle.job_form.specs.declared.JobRead.{JobRead}
 use Rattle.job_form.specs.JobForm.{job_form_of, job_answer, refused_with}
 use Rattle.job_parts.specs.declared.Parts.{Parts}
 use Rattle.job_parts.specs.declared.Taken.{Taken}
@@ -34,21 +33,21 @@ unfoldable pub bytes_taken : Parts → List ℕ → Parts
 bytes_taken p bs = foldl byte_taken p bs
 
 abbrev pub beyond_limits : Status
-beyond_limits = Status.Refused Fault.Beyond 0
+beyond_limits = refused Fault.Beyond 0
 
 -- "takes a job's text in parts of any length, zero included": a refusal "hands the state back as it was"
 unfoldable pub part_taken : Parts → List ℕ → Taken
 part_taken p bs =
-    cond (fits p) (record { status = Status.Done; parts = bytes_taken p bs })
+    cond (fits p) (record { status = Ok tt; parts = bytes_taken p bs })
     (record { status = beyond_limits; parts = p })
 
 -- "answers only when told the text has ended"; "Fault 1 comes first", with line 0
-unfoldable pub whole : Parts → JobRead
+unfoldable pub whole : Parts → (Checked Job)
 whole p =
-    cond (ltb text_max p.size) (refused_with (Status.Refused Fault.LongText 0))
+    cond (ltb text_max p.size) (refused Fault.LongText 0)
     (job_answer (ended job_form_of (state_of p.read) p.held))
 
-unfoldable pub end_of : Parts → JobRead
+unfoldable pub end_of : Parts → (Checked Job)
 end_of p = cond (fits p) (whole p) (refused_with beyond_limits)
 
 -- what is carried after these parts

@@ -8,7 +8,6 @@ use lib.ListN.{length, length-append}
 use Rattle.sizes.specs.Sizes.{text_max}
 use Rattle.digits.proofs.Cases.{either}
 use Rattle.text.specs.Cut.{end_each}
-use Rattle.faults.specs.declared.Status.{Status}
 use Rattle.checks.specs.Checks.{check_job}
 use Rattle.jobs.specs.Lines.{after_n}
 use Rattle.checks.specs.Accepted.{GoodSystem}
@@ -23,6 +22,7 @@ use Rattle.job_form.specs.JobBytes.{system_text, job_line, head_kinds, system_ki
 use Rattle.job_form.proofs.Order.{kinds-next, Shape, shape}
 use Rattle.job_form.proofs.Trips.{job-short}
 use Rattle.job_put.specs.Parts.{lines_bytes, pin_texts, body_kinds}
+use Rattle.std.specs.Prelude.{Ok}
 
 module _ (j : Job) where
   abbrev system_lines : List (List ℕ)
@@ -47,7 +47,7 @@ module _ (j : Job) where
       ∙ sym (end-append (lines_of job_shows j head_kinds) (pin_texts j ++ (body ++ system_lines)))
       ∙ ap bytes lines_are
 
-  pub parts-short : check_job j ≡ Status.Done
+  pub parts-short : check_job j ≡ Ok tt
       → length (lines_bytes j head_kinds)
       + (length (bytes (pin_texts j)) + (length (bytes body) + length (bytes system_lines)))
       ≤ text_max

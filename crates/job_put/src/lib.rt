@@ -8,7 +8,6 @@ ghost use Rattle.std.specs.Prelude.{◌≡◌, ◌+◌, ◌≤◌, length};
 ghost use Rattle.sizes.specs.Sizes.{text_max};
 ghost use Rattle.checks.specs.Checks.{check_job};
 ghost use Rattle.writing.specs.Wrote.{Wrote, line};
-ghost use Rattle.faults.specs.declared.Status.{Status};
 ghost use Rattle.lines.specs.Texts.{kind_text};
 ghost use Rattle.reading.specs.Lines.{bytes};
 ghost use Rattle.job_form.specs.JobBytes.{head_kinds, job_bytes};
@@ -70,7 +69,7 @@ fn put_body(buf: &mut [u8], at: usize, j: Job) -> usize
 
 // The whole text, from the buffer's start on.
 pub fn put_job(buf: &mut [u8], j: Job) -> usize
-    requires { check_job j ≡ Status.Done }
+    requires { check_job j ≡ Ok tt }
     ensures { Wrote buf.old buf.new 0 result (job_bytes j) }
 {
     let a = put_head(buf, 0, j);

@@ -4,7 +4,7 @@ use mathlib.Core.Path.{◌≡◌, refl, sym, ap, ◌∙◌}
 use mathlib.Core.List.{List}
 use mathlib.Core.Bool.{true, false, true≢false}
 use lib.ListN.{length}
-use Rattle.faults.specs.declared.Status.{Status}
+use Rattle.faults.specs.Checked.{Status, Found}
 use Rattle.faults.specs.Checks.{is_bad, on_line}
 use Rattle.jobs.specs.declared.Head.{Head}
 use Rattle.jobs.specs.declared.Job.{Job}
@@ -12,7 +12,7 @@ use Rattle.jobs.specs.declared.JobLine.{JobLine}
 use Rattle.jobs.specs.Lines.{after_n, job_number}
 use Rattle.jobs.specs.Parts.{with_number, with_kind, with_unknowns, with_lo, with_hi, with_inverse, with_steps}
 use Rattle.checks.proofs.CheckLaws.{unknowns-fine}
-use Rattle.reading.specs.Got.{Got, after}
+use Rattle.reading.specs.Results.{after}
 use Rattle.reading.specs.Lines.{Next}
 use Rattle.faults.specs.declared.Fault.{Fault}
 use Rattle.lines.specs.Lines.{number_of, kind_of, unknowns_of, low_of, high_of, inverse_of, steps_of}
@@ -73,7 +73,7 @@ module _ (t : List ℕ) (j : Job) (a : ℕ) (h : a ≤ length t) {m : ℕ} {st :
           kind = JobLine.Hi;
           value = with_lo j x;
         })
-        (ap {B = List ℕ → Got Fault (Next JobLine Job)}
+        (ap {B = List ℕ → Found (Next JobLine Job)}
         (λ (k : Head). λ l. after (low_of k.n l) (λ x. record { kind = JobLine.Hi; value = with_lo j x })) p)
         (cells-tells _ _ e) q (w ∙ ap (job_number JobLine.Lo) (sym p))
 
@@ -84,7 +84,7 @@ module _ (t : List ℕ) (j : Job) (a : ℕ) (h : a ≤ length t) {m : ℕ} {st :
     high-leads e q w =
         line-leads job_form_of t JobLine.Hi j a h refl (high_of head.n j.ends.lo)
         (λ x. record { kind = JobLine.Inv; value = with_hi j x })
-        (ap {B = List ℕ → Got Fault (Next JobLine Job)} (λ (k : Head). λ l.
+        (ap {B = List ℕ → Found (Next JobLine Job)} (λ (k : Head). λ l.
         after (high_of k.n j.ends.lo l) (λ x. record { kind = JobLine.Inv; value = with_hi j x })) p)
         (cells-tells _ _ e) q (w ∙ ap (job_number JobLine.Hi) (sym p))
 
@@ -95,7 +95,7 @@ module _ (t : List ℕ) (j : Job) (a : ℕ) (h : a ≤ length t) {m : ℕ} {st :
     inverse-leads e q w =
         line-leads job_form_of t JobLine.Inv j a h refl (inverse_of head.n)
         (λ x. record { kind = JobLine.Steps; value = with_inverse j x })
-        (ap {B = List ℕ → Got Fault (Next JobLine Job)} (λ (k : Head). λ l.
+        (ap {B = List ℕ → Found (Next JobLine Job)} (λ (k : Head). λ l.
         after (inverse_of k.n l) (λ x. record { kind = JobLine.Steps; value = with_inverse j x })) p)
         (rows-tells _ _ e) q (w ∙ ap (job_number JobLine.Inv) (sym p))
 

@@ -5,8 +5,7 @@ use mathlib.Core.List.{List}
 use mathlib.Core.Bool.{true, false}
 use lib.ListN.{length}
 use Rattle.faults.specs.declared.Fault.{Fault}
-use Rattle.faults.specs.declared.Finding.{Finding}
-use Rattle.faults.specs.declared.Status.{Status}
+use Rattle.faults.specs.Checked.{Finding, Status, Found}
 use Rattle.faults.specs.Checks.{is_bad, on_line}
 use Rattle.jobs.specs.declared.Body.{Body}
 use Rattle.jobs.specs.declared.Head.{Head}
@@ -15,7 +14,6 @@ use Rattle.jobs.specs.declared.JobLine.{JobLine}
 use Rattle.jobs.specs.Lines.{job_number}
 use Rattle.jobs.specs.Parts.{with_system}
 use Rattle.jobs.specs.Zero.{zero_body}
-use Rattle.reading.specs.Got.{Got}
 use Rattle.line_read.specs.At.{said, onward}
 use Rattle.line_read.specs.States.{Leads, Tells}
 use Rattle.job_form.specs.JobForm.{job_form_of, after_system}
@@ -24,8 +22,9 @@ use Rattle.job_read.specs.declared.LineEnd.{LineEnd}
 use Rattle.job_read.specs.declared.SystemEnd.{SystemEnd}
 use Rattle.job_read.proofs.Systems.{Adds, line-adds}
 use Rattle.job_read.proofs.Systems.{Walked, walked_none, walked-done, grown-more, grown-bad}
+use Rattle.std.specs.Prelude.{Ok}
 
-pub line-from : (t : List ℕ) (head : Head) {A : Type 0} {f : List ℕ → Got Fault A} {add : ℕ → Body → A → Body}
+pub line-from : (t : List ℕ) (head : Head) {A : Type 0} {f : List ℕ → Found A} {add : ℕ → Body → A → Body}
     → Adds head f add → {a : ℕ} → a ≤ length t → {found : Finding} {next : ℕ} {x : A}
     → Tells (said f t a) (onward t a) found next x → LineFrom t a head (record { found = found; next = next })
 line-from t head {add = add} adds h {x = x} told =
@@ -56,5 +55,5 @@ module _ (t : List ℕ) (from : ℕ) (head : Head) where
     passed-bad bad e = record { system = zero_body; from = grown-bad t from head passed.walked more on bad e }
 
   pub passed-done : {i a : ℕ} → Passed i a → head.n ≤ i
-      → SystemEnds t from head (record { status = Status.Done; next = a })
+      → SystemEnds t from head (record { status = Ok tt; next = a })
   passed-done p k = record { system = p.body; from = walked-done t from head p.walked k }

@@ -6,7 +6,7 @@ use mathlib.Core.Bool.{true, false, not}
 use lib.ListN.{length}
 use borrow.Author.Tests.{eq-eqb}
 use Rattle.faults.specs.declared.Fault.{Fault}
-use Rattle.faults.specs.declared.Status.{Status}
+use Rattle.faults.specs.Checked.{Status}
 use Rattle.faults.specs.Checks.{is_bad, on_line}
 use Rattle.text.specs.Keys.{starts_with}
 use Rattle.text.specs.Words.{pin_key}
@@ -18,7 +18,7 @@ use Rattle.jobs.specs.declared.JobLine.{JobLine}
 use Rattle.jobs.specs.Lines.{pin_stands, pin_lines, after_n, job_number}
 use Rattle.jobs.specs.Parts.{last_pin, with_head, with_pin}
 use Rattle.jobs.specs.Zero.{no_job}
-use Rattle.reading.specs.Got.{after}
+use Rattle.reading.specs.Results.{after}
 use Rattle.reading.specs.Lines.{Next}
 use Rattle.reading.specs.Places.{line_at}
 use Rattle.reading.proofs.Ends.{line_after}
@@ -32,6 +32,7 @@ use Rattle.line_read.proofs.Ways.{line-leads-here, leads-on}
 use Rattle.job_form.specs.JobForm.{job_form_of, job_says}
 use Rattle.job_read.specs.declared.HeadAt.{HeadAt}
 use Rattle.job_read.specs.Parts.{Unpinned, NamesFrom, PinFrom, HeadFrom}
+use Rattle.std.specs.Prelude.{Ok}
 
 -- "pin equal to n is never written": the line after n is lo, and has its number
 last-number : (h : Head) → Unpinned h → job_number JobLine.Pin h ≡ job_number JobLine.Lo h
@@ -71,7 +72,7 @@ module _ (t : List ℕ) (j : Job) (a : ℕ) (inside : a ≤ length t) where
 
   -- no line of its own
   pub last-leads : starts_with pin_key (line_of t a) ≡ false → Unpinned j.head
-      → Leads job_form_of t a JobLine.Pin j Status.Done JobLine.Lo j a
+      → Leads job_form_of t a JobLine.Pin j (Ok tt) JobLine.Lo j a
   last-leads key u = record {
     goes = goes-as job_form_of t JobLine.Pin JobLine.Lo j a inside refl refl (last-number j.head u) (said-low key);
   }

@@ -8,8 +8,7 @@ use lib.Dec.{ltb}
 use lib.IntN.{ℤ}
 use borrow.Author.Tests.{lt-ltb, le-ltb}
 use Rattle.faults.specs.declared.Fault.{Fault}
-use Rattle.faults.specs.declared.Finding.{Finding}
-use Rattle.faults.specs.declared.Status.{Status}
+use Rattle.faults.specs.Checked.{Finding, Status, Found}
 use Rattle.faults.specs.Checks.{is_bad, on_line}
 use Rattle.jobs.specs.declared.Body.{Body}
 use Rattle.jobs.specs.declared.Equation.{Equation}
@@ -20,7 +19,7 @@ use Rattle.jobs.specs.declared.Kind.{Kind}
 use Rattle.jobs.specs.Lines.{job_number}
 use Rattle.jobs.specs.Parts.{with_head, with_system}
 use Rattle.jobs.specs.Zero.{zero_body, no_job}
-use Rattle.reading.specs.Got.{Got, after}
+use Rattle.reading.specs.Results.{after}
 use Rattle.reading.proofs.Goes.{goes_none}
 use Rattle.lines.specs.Lines.{equation_of, row_of, Sided, sided_of}
 use Rattle.line_read.specs.At.{said, onward}
@@ -29,6 +28,7 @@ use Rattle.line_read.proofs.Ways.{line-leads, leads-inside, leads-on, leads-stop
 use Rattle.job_form.specs.JobForm.{job_form_of, job_says, system_says, after_system}
 use Rattle.job_read.specs.Parts.{SystemFrom}
 use Rattle.job_read.specs.declared.SystemAt.{SystemAt}
+use Rattle.std.specs.Prelude.{Ok, Err}
 
 -- the kind of line i, where the system has n
 abbrev system_from : ℕ → ℕ → JobLine
@@ -47,7 +47,7 @@ add_sided i b x =
     record { eqs = b.eqs; rows = set b.rows i (record { at = x.row }); right = set b.right i x.side }
 
 -- a kind of system: what its line i says is added to what the lines before say
-pub record Adds (head : Head) {A : Type 0} (f : List ℕ → Got Fault A) (add : ℕ → Body → A → Body) : Type 0 where
+pub record Adds (head : Head) {A : Type 0} (f : List ℕ → Found A) (add : ℕ → Body → A → Body) : Type 0 where
   pub says : (i : ℕ) (j : Job) → j.head ≡ head
       → job_says (JobLine.System i) j
       ≡ (λ l. after (f l) (λ x. record { kind = after_system i head.n; value = with_system j (add i j.system x) }))
@@ -81,7 +81,7 @@ module _ (head : Head) where
   }
 
 -- a line that adds to the system leads on
-pub line-adds : (t : List ℕ) (head : Head) {A : Type 0} {f : List ℕ → Got Fault A} {add : ℕ → Body → A → Body}
+pub line-adds : (t : List ℕ) (head : Head) {A : Type 0} {f : List ℕ → Found A} {add : ℕ → Body → A → Body}
     → Adds head f add → {a : ℕ} → a ≤ length t → {found : Finding} {next : ℕ} {x : A} {m : ℕ} {st : Status}
     → Tells (said f t a) (onward t a) found next x → st ≡ on_line found m → (i : ℕ) (j : Job) → j.head ≡ head
     → m ≡ job_number (JobLine.System i) head
@@ -98,7 +98,7 @@ module _ (t : List ℕ) (from : ℕ) (head : Head) where
   pub record Walked (body : Body) (i a : ℕ) : Type 0 where
     pub inside : a ≤ length t
     pub leads : (j : Job) → j.head ≡ head → j.system ≡ zero_body
-        → Leads job_form_of t from (JobLine.System 0) j Status.Done (system_from i head.n) (with_system j body) a
+        → Leads job_form_of t from (JobLine.System 0) j (Ok tt) (system_from i head.n) (with_system j body) a
 
   pub walked_none : 0 < head.n → from ≤ length t → Walked zero_body 0 from
   walked_none some h = record {
@@ -128,15 +128,15 @@ module _ (t : List ℕ) (from : ℕ) (head : Head) where
       where
         done : (j : Job) → j.head ≡ head → j.system ≡ zero_body → (s : Status) → is_bad s ≡ false
             → Leads job_form_of t from (JobLine.System 0) j s (system_from (i + 1) head.n) (with_system j grown) next
-            → Leads job_form_of t from (JobLine.System 0) j Status.Done (system_from (i + 1) head.n)
+            → Leads job_form_of t from (JobLine.System 0) j (Ok tt) (system_from (i + 1) head.n)
             (with_system j grown) next
-        done j p z Status.Done e w = w
-        done j p z (Status.Refused g n) e w = absurd (true≢false e)
+        done j p z (Ok tt) e w = w
+        done j p z (Err r) e w = absurd (true≢false e)
 
     pub grown-bad : {r : SystemAt} → is_bad st ≡ true → (r.status ≡ st) × (r.next ≡ 0) → SystemFrom t from head r
     grown-bad bad e = record { leads = λ j p z. leads-stop job_form_of t (line_on j p z) JobLine.End _ bad e }
 
-  module _ {A : Type 0} {f : List ℕ → Got Fault A} {add : ℕ → Body → A → Body} (adds : Adds head f add) {body : Body}
+  module _ {A : Type 0} {f : List ℕ → Found A} {add : ℕ → Body → A → Body} (adds : Adds head f add) {body : Body}
       {i a : ℕ} (walked : Walked body i a)
       (more : i < head.n) {found : Finding} {next : ℕ} {x : A} {m : ℕ} {st : Status}
       (told : Tells (said f t a) (onward t a) found next x) (is : st ≡ on_line found m)
@@ -152,6 +152,6 @@ module _ (t : List ℕ) (from : ℕ) (head : Head) where
     walked-bad = grown-bad walked more line
 
   pub walked-done : {body : Body} {i a : ℕ} → Walked body i a → head.n ≤ i
-      → SystemFrom t from head (record { status = Status.Done; system = body; next = a })
+      → SystemFrom t from head (record { status = Ok tt; system = body; next = a })
   walked-done {body} {i} {a} w k =
       record { leads = λ j p z. rw (le-ltb i head.n k) at (w.leads j p z) }

@@ -97,7 +97,7 @@ pub fn read_job(text: &[u8]) -> JobRead
 
 // The status of the whole text: no system is kept and no job put together.
 pub fn read_status(text: &[u8]) -> Status
-    ensures { result ≡ (read_job text.now).status }
+    ensures { result ≡ status_of (read_job text.now) }
 {
     if TEXT < text.len() {
         return Status::Refused(Fault::LongText, 0);

@@ -4,7 +4,6 @@
 ghost use Rattle.std.specs.Prelude.{◌≡◌};
 ghost use Rattle.checks.specs.Checks.{check_job};
 ghost use Rattle.faults.specs.Answer.{Leaves};
-ghost use Rattle.faults.specs.declared.Status.{Status};
 ghost use Rattle.job_form.specs.JobBytes.{job_bytes};
 
 use checks::job::check_job;
@@ -15,8 +14,8 @@ use jobs::Job;
 // The text of a job whose check found nothing, for any buffer. The same writer on a buffer of one byte measures it
 // first, so that nothing is written where it does not fit.
 pub fn write_ready(j: Job, out: &mut [u8]) -> Written
-    requires { check_job j ≡ Status.Done }
-    ensures { Leaves Status.Done (job_bytes j) out.old out.new result }
+    requires { check_job j ≡ Ok tt }
+    ensures { Leaves Ok tt (job_bytes j) out.old out.new result }
 {
     let mut scratch = [0u8; 1];
     let len = put_job(&mut scratch, j);

@@ -7,13 +7,11 @@ use mathlib.Core.Bool.{Bool, true, false, cond, false≢true}
 use lib.ListN.{length}
 use lib.Dec.{ltb}
 use Rattle.faults.specs.declared.Fault.{Fault}
-use Rattle.digits.specs.declared.Number.{Number}
 use Rattle.digits.specs.Number.{read_number}
 use Rattle.text.specs.Counts.{count_of}
 use Rattle.text.specs.Keys.{same_bytes, body_of}
 use Rattle.jobs.specs.declared.Kind.{Kind}
 use Rattle.jobs.specs.declared.Verdict.{Verdict}
-use Rattle.reading.specs.Got.{Got}
 use Rattle.reading.specs.NumberLines.{counted, count_line}
 use Rattle.reading.specs.Places.{line_end, line_at}
 use Rattle.reading.proofs.Ends.{line-end}
@@ -24,16 +22,18 @@ use Rattle.scan.specs.Lines.{line_of, number_of, counted_of, line_is}
 use Rattle.lines.specs.Lines.{misspelled, word_or, kind_of, verdict_of}
 use Rattle.lines.specs.Texts.{kind_text, verdict_text}
 use Rattle.line_read.specs.At.{said, onward, count_at, past_if}
+use Rattle.std.specs.Prelude.{Ok, Some, None, Option}
+use Rattle.faults.specs.Checked.{Found}
 
 -- ---- a word
 
-pub said-word : {A : Type 0} (w : List ℕ) (v : A) (f : List ℕ → Got Fault A) (t : List ℕ) (a : ℕ)
-    → said (λ l. word_or l w v (f l)) t a ≡ cond (line_is w t a) (Got.got v) (said f t a)
+pub said-word : {A : Type 0} (w : List ℕ) (v : A) (f : List ℕ → Found A) (t : List ℕ) (a : ℕ)
+    → said (λ l. word_or l w v (f l)) t a ≡ cond (line_is w t a) (Ok v) (said f t a)
 unfolding line_at
 said-word {A} w v f t a = go (ltb (line_end t a) (length t)) (same_bytes w (line_of t a)) (f (line_of t a))
   where
-    go : (e s : Bool) (g : Got Fault A)
-        → cond e (cond s (Got.got v) g) misspelled ≡ cond (cond e s false) (Got.got v) (cond e g misspelled)
+    go : (e s : Bool) (g : Found A)
+        → cond e (cond s (Ok v) g) misspelled ≡ cond (cond e s false) (Ok v) (cond e g misspelled)
     go true true g = refl
     go true false g = refl
     go false true g = refl
@@ -49,18 +49,18 @@ said-none {A} t a = go (ltb (line_end t a) (length t))
 
 pub kind-is : (t : List ℕ) (a : ℕ)
     → said kind_of t a
-    ≡ cond (line_is (kind_text Kind.Poly) t a) (Got.got Kind.Poly)
-    (cond (line_is (kind_text Kind.Linear) t a) (Got.got Kind.Linear)
-    (cond (line_is (kind_text Kind.Eigen) t a) (Got.got Kind.Eigen) misspelled))
+    ≡ cond (line_is (kind_text Kind.Poly) t a) (Ok Kind.Poly)
+    (cond (line_is (kind_text Kind.Linear) t a) (Ok Kind.Linear)
+    (cond (line_is (kind_text Kind.Eigen) t a) (Ok Kind.Eigen) misspelled))
 unfolding kind_of
 kind-is t a = simp (said-word, said-none)
 
 pub verdict-is : (t : List ℕ) (a : ℕ)
     → said verdict_of t a
-    ≡ cond (line_is (verdict_text Verdict.None) t a) (Got.got Verdict.None)
-    (cond (line_is (verdict_text Verdict.Unique) t a) (Got.got Verdict.Unique)
-    (cond (line_is (verdict_text Verdict.Stalled) t a) (Got.got Verdict.Stalled)
-    (cond (line_is (verdict_text Verdict.Spent) t a) (Got.got Verdict.Spent) misspelled)))
+    ≡ cond (line_is (verdict_text Verdict.None) t a) (Ok Verdict.None)
+    (cond (line_is (verdict_text Verdict.Unique) t a) (Ok Verdict.Unique)
+    (cond (line_is (verdict_text Verdict.Stalled) t a) (Ok Verdict.Stalled)
+    (cond (line_is (verdict_text Verdict.Spent) t a) (Ok Verdict.Spent) misspelled)))
 unfolding verdict_of
 verdict-is t a = simp (said-word, said-none)
 
@@ -89,11 +89,11 @@ pub count-is : (out : Fault) (key : List ℕ) (most : ℕ) (t : List ℕ) (a : �
 unfolding line_at count_line counted counted_of count_of
 count-is out key most t a {x} w = go (ltb (line_end t a) (length t)) (read_number (body_of key (line_of t a))) w
   where
-    go : (e : Bool) (v : Number) → x ≡ counted_of most (cond e v Number.Bad) (line_end t a)
+    go : (e : Bool) (v : Option ℤ) → x ≡ counted_of most (cond e v None) (line_end t a)
         → count_at (counted Fault.Spelling out x.count) x.next
         ≡ count_at (cond e (counted Fault.Spelling out (count_of most v)) misspelled) (onward t a)
-    go true (Number.Is v) p = rw p
-    go true Number.Bad p = rw p
+    go true (Some v) p = rw p
+    go true None p = rw p
     go false v p = rw p
 
 -- a line that is these bytes ends after them

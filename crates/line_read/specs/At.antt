@@ -1,10 +1,9 @@
 -- What a line function answers: what the line says, and where the next line begins. "everything is zero beside a
 -- fault"
-use Rattle.std.specs.Prelude.{ℕ, ◌+◌, Bool, cond, List, replicate, ℤ, pos}
+use Rattle.std.specs.Prelude.{ℕ, ◌+◌, Bool, cond, List, replicate, ℤ, pos, Ok, Err}
 use Rattle.sizes.specs.Sizes.{n_max}
 use Rattle.faults.specs.declared.Fault.{Fault}
-use Rattle.faults.specs.declared.Finding.{Finding}
-use Rattle.reading.specs.Got.{Got}
+use Rattle.faults.specs.Checked.{Found}
 use Rattle.reading.specs.Places.{line_at, line_end}
 use Rattle.reading.specs.NumberLines.{Listed}
 use Rattle.jobs.specs.Zero.{zero_row, zero_equation}
@@ -24,51 +23,51 @@ use Rattle.line_read.specs.declared.SidedLine.{SidedLine}
 use Rattle.line_read.specs.declared.EquationLine.{EquationLine}
 
 -- what f makes of the line that begins at a, and 2 where no LF ends it
-abbrev pub said : {A : Type 0} → (List ℕ → Got Fault A) → List ℕ → ℕ → Got Fault A
+abbrev pub said : {A : Type 0} → (List ℕ → Found A) → List ℕ → ℕ → Found A
 said = line_at Fault.Spelling
 
 -- where the line after it begins
 abbrev pub onward : List ℕ → ℕ → ℕ
 onward t a = line_end t a + 1
 
-abbrev pub count_at : Got Fault ℕ → ℕ → CountLine
-count_at (Got.got m) b = record { found = Finding.Fine; count = m; next = b }
-count_at (Got.fault f) b = record { found = Finding.Bad f; count = 0; next = 0 }
+abbrev pub count_at : Found ℕ → ℕ → CountLine
+count_at (Ok m) b = record { found = Ok tt; count = m; next = b }
+count_at (Err f) b = record { found = Err f; count = 0; next = 0 }
 
-abbrev pub kind_at : Got Fault Kind → ℕ → KindLine
-kind_at (Got.got k) b = record { found = Finding.Fine; kind = k; next = b }
-kind_at (Got.fault f) b = record { found = Finding.Bad f; kind = Kind.Poly; next = 0 }
+abbrev pub kind_at : Found Kind → ℕ → KindLine
+kind_at (Ok k) b = record { found = Ok tt; kind = k; next = b }
+kind_at (Err f) b = record { found = Err f; kind = Kind.Poly; next = 0 }
 
-abbrev pub verdict_at : Got Fault Verdict → ℕ → VerdictLine
-verdict_at (Got.got v) b = record { found = Finding.Fine; verdict = v; next = b }
-verdict_at (Got.fault f) b = record { found = Finding.Bad f; verdict = Verdict.None; next = 0 }
+abbrev pub verdict_at : Found Verdict → ℕ → VerdictLine
+verdict_at (Ok v) b = record { found = Ok tt; verdict = v; next = b }
+verdict_at (Err f) b = record { found = Err f; verdict = Verdict.None; next = 0 }
 
-abbrev pub small_at : Got Fault ℕ → ℕ → SmallLine
-small_at (Got.got m) b = record { found = Finding.Fine; small = m; next = b }
-small_at (Got.fault f) b = record { found = Finding.Bad f; small = 0; next = 0 }
+abbrev pub small_at : Found ℕ → ℕ → SmallLine
+small_at (Ok m) b = record { found = Ok tt; small = m; next = b }
+small_at (Err f) b = record { found = Err f; small = 0; next = 0 }
 
 abbrev zeros : List ℤ
 zeros = replicate n_max (pos 0)
 
-abbrev pub cells_at : Got Fault (List ℤ) → ℕ → CellsLine
-cells_at (Got.got xs) b = record { found = Finding.Fine; cells = xs; next = b }
-cells_at (Got.fault f) b = record { found = Finding.Bad f; cells = zeros; next = 0 }
+abbrev pub cells_at : Found (List ℤ) → ℕ → CellsLine
+cells_at (Ok xs) b = record { found = Ok tt; cells = xs; next = b }
+cells_at (Err f) b = record { found = Err f; cells = zeros; next = 0 }
 
-abbrev pub low_at : Got Fault Listed → ℕ → LowLine
-low_at (Got.got x) b = record { found = Finding.Fine; n = x.count; cells = x.row; next = b }
-low_at (Got.fault f) b = record { found = Finding.Bad f; n = 0; cells = zeros; next = 0 }
+abbrev pub low_at : Found Listed → ℕ → LowLine
+low_at (Ok x) b = record { found = Ok tt; n = x.count; cells = x.row; next = b }
+low_at (Err f) b = record { found = Err f; n = 0; cells = zeros; next = 0 }
 
-abbrev pub rows_at : Got Fault (List Row) → ℕ → RowsLine
-rows_at (Got.got rows) b = record { found = Finding.Fine; rows = rows; next = b }
-rows_at (Got.fault f) b = record { found = Finding.Bad f; rows = replicate n_max zero_row; next = 0 }
+abbrev pub rows_at : Found (List Row) → ℕ → RowsLine
+rows_at (Ok rows) b = record { found = Ok tt; rows = rows; next = b }
+rows_at (Err f) b = record { found = Err f; rows = replicate n_max zero_row; next = 0 }
 
-abbrev pub sided_at : Got Fault Sided → ℕ → SidedLine
-sided_at (Got.got x) b = record { found = Finding.Fine; cells = x.row; side = x.side; next = b }
-sided_at (Got.fault f) b = record { found = Finding.Bad f; cells = zeros; side = pos 0; next = 0 }
+abbrev pub sided_at : Found Sided → ℕ → SidedLine
+sided_at (Ok x) b = record { found = Ok tt; cells = x.row; side = x.side; next = b }
+sided_at (Err f) b = record { found = Err f; cells = zeros; side = pos 0; next = 0 }
 
-abbrev pub equation_at : Got Fault Equation → ℕ → EquationLine
-equation_at (Got.got q) b = record { found = Finding.Fine; equation = q; next = b }
-equation_at (Got.fault f) b = record { found = Finding.Bad f; equation = zero_equation; next = 0 }
+abbrev pub equation_at : Found Equation → ℕ → EquationLine
+equation_at (Ok q) b = record { found = Ok tt; equation = q; next = b }
+equation_at (Err f) b = record { found = Err f; equation = zero_equation; next = 0 }
 
 -- the place after a line that is these bytes, 0 where it is not
 abbrev pub past_if : Bool → List ℕ → ℕ → ℕ

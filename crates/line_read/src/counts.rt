@@ -4,7 +4,7 @@ ghost use Rattle.faults.specs.declared.Fault.{Fault};
 ghost use Rattle.text.specs.Keys.{starts_with};
 ghost use Rattle.text.specs.Words.{pin_key};
 ghost use Rattle.scan.specs.Lines.{no_feed, line_of};
-ghost use Rattle.reading.specs.Got.{Got, after};
+ghost use Rattle.reading.specs.Results.{Got, after};
 ghost use Rattle.reading.specs.NumberLines.{count_line, counted};
 ghost use Rattle.lines.specs.Found.{found};
 ghost use Rattle.lines.specs.Lines.{number_of, visit_of, steps_of, unknowns_of, written_pin, pin_of};
@@ -21,7 +21,7 @@ use term_read::digit_at;
 use text::Count;
 
 fn no_count(f: Fault) -> CountLine
-    ensures { result ≡ count_at (Got.fault f) 0 }
+    ensures { result ≡ count_at (Err f) 0 }
 {
     CountLine {
         found: Finding::Bad(f),

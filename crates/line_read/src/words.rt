@@ -1,7 +1,7 @@
 // The lines that hold a word.
 ghost use Rattle.std.specs.Prelude.{◌≡◌, true, ◌≤◌, length};
 ghost use Rattle.scan.specs.Lines.{no_feed, line_is};
-ghost use Rattle.reading.specs.Got.{Got};
+ghost use Rattle.reading.specs.Results.{Got};
 ghost use Rattle.lines.specs.Lines.{kind_of, verdict_of};
 ghost use Rattle.line_read.specs.At.{said, onward, kind_at, verdict_at, past_if};
 
@@ -22,7 +22,7 @@ fn past(text: &[u8], from: usize, line: &[u8]) -> usize
 }
 
 fn is_kind(kind: Kind, next: usize) -> KindLine
-    ensures { result ≡ kind_at (Got.got kind) next }
+    ensures { result ≡ kind_at (Ok kind) next }
 {
     KindLine {
         found: Finding::Fine,
@@ -55,7 +55,7 @@ pub fn kind_line(text: &[u8], from: usize) -> KindLine
 }
 
 fn is_verdict(verdict: Verdict, next: usize) -> VerdictLine
-    ensures { result ≡ verdict_at (Got.got verdict) next }
+    ensures { result ≡ verdict_at (Ok verdict) next }
 {
     VerdictLine {
         found: Finding::Fine,

@@ -15,12 +15,12 @@ use Rattle.digits.proofs.Cases.{either}
 use Rattle.text.specs.Lists.{places_max, show_list, Small}
 use Rattle.text.specs.Words.{lo_key, hi_key, inv_key, row_key, job_key, visit_key, steps_key}
 use Rattle.faults.specs.declared.Fault.{Fault}
-use Rattle.faults.specs.declared.Finding.{Finding}
+use Rattle.faults.specs.Checked.{Finding}
 use Rattle.faults.specs.Checks.{first_of, bad_unless}
 use Rattle.checks.specs.Checks.{low_check, high_check, inverse_check, row_check, sided_check, number_check, steps_check}
 use Rattle.checks.specs.CheckResult.{visit_check, counted_check}
 use Rattle.jobs.specs.declared.Row.{Row}
-use Rattle.reading.specs.Got.{Got, after, passing}
+use Rattle.reading.specs.Results.{after, passing}
 use Rattle.reading.specs.NumberLines.{placed, row_line, count_line}
 use Rattle.reading.proofs.NumberLines.{first-all, list-line-none, list-line-back, row-line-back, count-line-back}
 use Rattle.digits.specs.Number.{digits_max}
@@ -31,6 +31,7 @@ use Rattle.lines.specs.Places.{cells, live_rows}
 use Rattle.lines.specs.Texts.{row_text, matrix_list, inverse_text, sided_text, count_text}
 use Rattle.lines.proofs.Checks.{count_none, count-over, live_at, low-live, high-live, row-live, sided-live}
 use Rattle.lines.proofs.Rows.{square-fits, square-some, matrix-first, rows_back, inverse-live}
+use Rattle.std.specs.Prelude.{Ok}
 
 -- ---- one number
 
@@ -74,7 +75,7 @@ any-low-back n lo small =
 
 -- numbers that fill all places
 full_back : (key : List ℕ) (n : ℕ) (xs : List ℤ) → 0 < n → n ≤ places_max → placed n n xs ≡ xs → Small xs
-    → row_line Fault.Spelling key places_max n (key ++ show_list xs) ≡ Got.got (placed places_max n xs)
+    → row_line Fault.Spelling key places_max n (key ++ show_list xs) ≡ Ok (placed places_max n xs)
 full_back key n xs some few e small =
     ap (λ (ys : List ℤ). row_line Fault.Spelling key places_max n (key ++ show_list ys)) (sym e)
     ∙ row-line-back Fault.Spelling key places_max n xs some (rw e small) few (omega arith)

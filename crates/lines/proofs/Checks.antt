@@ -19,25 +19,25 @@ use Rattle.reading.proofs.NumberLines.{below-tab}
 use Rattle.digits.specs.Number.{digits_max}
 use Rattle.text.specs.Lists.{Below, Small}
 use Rattle.term_checks.proofs.RangeLaws.{is_within_lem, all-within}
-use Rattle.faults.specs.declared.Finding.{Finding}
 use Rattle.faults.specs.Checks.{bad_unless, first_of}
 use Rattle.checks.specs.Checks.{number_check, steps_check, low_check, high_check, row_check, sided_check}
 use Rattle.checks.specs.CheckResult.{visit_check, count_check, counted_check}
 use Rattle.faults.proofs.Laws.{fine-first, fine-next, unless-fine}
 use Rattle.checks.proofs.CheckLaws.{count-fine}
+use Rattle.std.specs.Prelude.{Ok, Err}
 
 -- ---- how many numbers
 
-pub count_none : count_check 0 ≡ Finding.Bad Fault.Spelling
+pub count_none : count_check 0 ≡ Err Fault.Spelling
 unfolding count_check first_of bad_unless
 count_none = refl
 
-pub count-over : (n : ℕ) → n_max < n → count_check n ≡ Finding.Bad Fault.Unknowns
+pub count-over : (n : ℕ) → n_max < n → count_check n ≡ Err Fault.Unknowns
 unfolding count_check first_of bad_unless
 count-over n h = rw (le-leb 1 n (omega arith), lt-leb n n_max h)
 
-pub counted-fine : (n : ℕ) (lo : List ℤ) → counted_check n lo ≡ Finding.Fine
-    → ((0 < n) × (n ≤ n_max)) × (low_check n lo ≡ Finding.Fine)
+pub counted-fine : (n : ℕ) (lo : List ℤ) → counted_check n lo ≡ Ok tt
+    → ((0 < n) × (n ≤ n_max)) × (low_check n lo ≡ Ok tt)
 unfolding counted_check
 counted-fine n lo e = (count-fine n (fine-first _ _ e), fine-next _ _ e)
 
@@ -80,15 +80,15 @@ module _ (n : ℕ) (xs : List ℤ) where
   tested-small : (B : ℕ) → B < 10 ^ digits_max → all_within xs n (pos B) ≡ true → Small (placed n n xs)
   tested-small B h e = within-below digits_max B h (all-within xs n B e)
 
-  pub low_small : low_check n xs ≡ Finding.Fine → Small (placed n n xs)
+  pub low_small : low_check n xs ≡ Ok tt → Small (placed n n xs)
   unfolding low_check
   low_small e = tested-small end_max (omega arith) (unless-fine _ _ e)
 
-  pub high_small : (lo : List ℤ) → high_check n lo xs ≡ Finding.Fine → Small (placed n n xs)
+  pub high_small : (lo : List ℤ) → high_check n lo xs ≡ Ok tt → Small (placed n n xs)
   unfolding high_check
   high_small lo e = tested-small end_max (omega arith) (unless-fine _ _ (fine-first _ _ e))
 
-  pub row_small : row_check n xs ≡ Finding.Fine → Small (placed n n xs)
+  pub row_small : row_check n xs ≡ Ok tt → Small (placed n n xs)
   unfolding row_check
   row_small e = tested-small entry_max (omega arith) (unless-fine _ _ e)
 
@@ -97,21 +97,21 @@ unfolding Below
 below-snoc k [] v s h = (h, tt)
 below-snoc k (x ∷ xs) v s h = (s.0, below-snoc k xs v s.1 h)
 
-pub sided-small : (n : ℕ) (row : List ℤ) (right : ℤ) → sided_check n row right ≡ Finding.Fine
+pub sided-small : (n : ℕ) (row : List ℤ) (right : ℤ) → sided_check n row right ≡ Ok tt
     → Small (placed n n row ++ (right ∷ []))
 unfolding sided_check
 sided-small n row right e =
     below-snoc digits_max (placed n n row) right (row_small n row (fine-first _ _ e))
     (omega (arith, (is_within_lem right entry_max (unless-fine _ _ (fine-next _ _ e))).abs))
 
-pub number_spelled : (m : ℕ) → number_check m ≡ Finding.Fine → m < 10 ^ digits_max
+pub number_spelled : (m : ℕ) → number_check m ≡ Ok tt → m < 10 ^ digits_max
 unfolding number_check
 number_spelled m e = let h = leb-true m number_max (unless-fine _ _ e) in omega arith
 
-pub visit-spelled : (m : ℕ) → visit_check m ≡ Finding.Fine → m < 10 ^ digits_max
+pub visit-spelled : (m : ℕ) → visit_check m ≡ Ok tt → m < 10 ^ digits_max
 unfolding visit_check
 visit-spelled m e = let h = leb-true m visit_max (unless-fine _ _ e) in omega arith
 
-pub steps-spelled : (m : ℕ) → steps_check m ≡ Finding.Fine → m < 10 ^ digits_max
+pub steps-spelled : (m : ℕ) → steps_check m ≡ Ok tt → m < 10 ^ digits_max
 unfolding steps_check
 steps-spelled m e = let h = leb-true m steps_max (unless-fine _ _ e) in omega arith

@@ -11,7 +11,6 @@ use Rattle.sizes.specs.Sizes.{n_max, terms_max, entry_max, degree_max}
 use Rattle.lists.proofs.All.{all-each}
 use Rattle.text.proofs.Keys.{both}
 use Rattle.faults.specs.declared.Fault.{Fault}
-use Rattle.faults.specs.declared.Finding.{Finding}
 use Rattle.faults.specs.Checks.{bad_unless, first_of}
 use Rattle.faults.proofs.Laws.{fine-first, fine-next, unless-fine}
 use Rattle.jobs.specs.Places.{exp_of, term_at}
@@ -27,19 +26,20 @@ use Rattle.term_round.specs.Spelled.{SpelledEquation}
 use Rattle.term_round.proofs.ReadBack.{equation-read}
 use Rattle.term_round.proofs.WriteBack.{equation-was}
 use Rattle.term_round.proofs.LiveTerms.{terms-live, coefs-live}
-use Rattle.reading.specs.Got.{Got, after, passing, refuse, Told}
+use Rattle.reading.specs.Results.{after, passing, refuse, Told}
 use Rattle.reading.proofs.Told.{not-false, told-got, told-map, told-unless, told-passing}
 use Rattle.lines.specs.Found.{found}
 use Rattle.lines.specs.Lines.{terms_by, equation_of}
 use Rattle.lines.proofs.Found.{found-fine}
 use Rattle.lines.proofs.Was.{LineWas}
+use Rattle.std.specs.Prelude.{Ok, Err}
 
 module _ (n : ℕ) where
-  equation-far : (q : Equation) → good_coefs q ≡ false → found (equation_check n q) ≡ Got.fault Fault.Beyond
+  equation-far : (q : Equation) → good_coefs q ≡ false → found (equation_check n q) ≡ Err Fault.Beyond
   unfolding equation_check bad_unless first_of
   equation-far q e = rw e
 
-  equation-few : (q : Equation) → equation_check n q ≡ Finding.Fine → q.count ≤ terms_max
+  equation-few : (q : Equation) → equation_check n q ≡ Ok tt → q.count ≤ terms_max
   unfolding equation_check good_terms
   equation-few q e =
       leb-true q.count terms_max (both (leb q.count terms_max) _ (unless-fine _ _ (fine-next _ _ e))).0
@@ -79,7 +79,7 @@ module _ (n : ℕ) (few : n ≤ n_max) where
 
 module _ (n : ℕ) (q : Equation) where
   -- an equation without fault can be spelled
-  pub equation-spelled : equation_check n q ≡ Finding.Fine → SpelledEquation n q
+  pub equation-spelled : equation_check n q ≡ Ok tt → SpelledEquation n q
   unfolding equation_check good_coefs good_terms good_place good_term
   equation-spelled e =
       let short = equation-few n q e in

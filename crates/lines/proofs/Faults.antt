@@ -9,7 +9,7 @@ use Rattle.sizes.specs.Sizes.{n_max, number_max, visit_max, steps_max}
 use Rattle.faults.specs.Words.{fault_number, fault_max}
 use Rattle.faults.specs.Checks.{bad_unless, first_of}
 use Rattle.faults.specs.declared.Fault.{Fault}
-use Rattle.faults.specs.declared.Finding.{Finding}
+use Rattle.faults.specs.Checked.{Finding, Found}
 use Rattle.text.specs.Keys.{body_of, same_bytes}
 use Rattle.text.specs.Lists.{places_max}
 use Rattle.text.specs.Words.{job_key, visit_key, n_key, pin_key, lo_key, hi_key, inv_key, steps_key, row_key}
@@ -19,7 +19,7 @@ use Rattle.checks.specs.Checks.{sided_check}
 use Rattle.checks.specs.CheckResult.{count_check, counted_check}
 use Rattle.jobs.specs.declared.Kind.{Kind}
 use Rattle.jobs.specs.declared.Verdict.{Verdict}
-use Rattle.reading.specs.Got.{Got, Blamed}
+use Rattle.reading.specs.Results.{Blamed}
 use Rattle.reading.proofs.Blamed.{blamed-got, blamed-fault, blamed-either, blamed-unless, blamed-after, blamed-passing}
 use Rattle.reading.proofs.Blamed.{count-blamed, list-blamed, row-blamed}
 use Rattle.lines.specs.Found.{found}
@@ -27,6 +27,7 @@ use Rattle.lines.specs.Lines.{number_of, visit_of, steps_of, digit_is, unknowns_
 use Rattle.lines.specs.Lines.{low_of, any_low_of, high_of}
 use Rattle.lines.specs.Lines.{written_pin, pin_of, inverse_of, row_of, sided_of, terms_by, equation_of, word_or}
 use Rattle.lines.specs.Texts.{kind_text, verdict_text}
+use Rattle.std.specs.Prelude.{Ok, Err}
 
 -- a fault that a line may have
 pub record OfLine (f : Fault) : Type 0 where
@@ -68,8 +69,8 @@ finds-unless false {f} p = blamed-fault f p
 
 finds-first : (f g : Finding) → Finds f → Finds g → Finds (first_of f g)
 unfolding first_of
-finds-first Finding.Fine g p q = q
-finds-first (Finding.Bad f) g p q = p
+finds-first (Ok tt) g p q = q
+finds-first (Err f) g p q = p
 
 row-finds : (n : ℕ) (row : List ℤ) → Finds (row_check n row)
 unfolding row_check
@@ -98,13 +99,13 @@ module _ (l : List ℕ) where
   unfolding unknowns_of digit_is unknowns_check
   unknowns-of-line =
       blamed-passing (digit_is (body_of n_key l)) (λ n. found (unknowns_check n))
-      (blamed-unless (not (one_digit (body_of n_key l))) Fault.Spelling (Got.got _) spelling (blamed-got _))
+      (blamed-unless (not (one_digit (body_of n_key l))) Fault.Spelling (Ok _) spelling (blamed-got _))
       (λ n. finds-unless _ unknowns)
 
   -- one word more
-  word : {A : Type 0} (line : List ℕ) (v : A) (other : Got Fault A) → Blamed OfLine other
+  word : {A : Type 0} (line : List ℕ) (v : A) (other : Found A) → Blamed OfLine other
       → Blamed OfLine (word_or l line v other)
-  word line v other p = blamed-either (same_bytes line l) (Got.got v) other (blamed-got v) p
+  word line v other p = blamed-either (same_bytes line l) (Ok v) other (blamed-got v) p
 
   pub kind-of-line : Blamed OfLine (kind_of l)
   unfolding kind_of
@@ -167,5 +168,5 @@ module _ (l : List ℕ) where
         let a = read_equation n l in
         blamed-unless (not a.ok) Fault.Spelling _ spelling
         (blamed-unless a.far Fault.Beyond _ beyond
-        (blamed-passing (Got.got a.equation) _ (blamed-got a.equation)
+        (blamed-passing (Ok a.equation) _ (blamed-got a.equation)
         (λ q. finds-first _ _ (finds-unless _ beyond) (finds-unless _ terms))))

@@ -11,14 +11,14 @@ use Rattle.digits.specs.Number.{digits_max}
 use Rattle.digits.proofs.Cases.{either}
 use Rattle.text.specs.Words.{pin_key}
 use Rattle.faults.specs.declared.Fault.{Fault}
-use Rattle.faults.specs.declared.Finding.{Finding}
+use Rattle.faults.specs.Checked.{Finding}
 use Rattle.faults.specs.Checks.{bad_unless}
 use Rattle.faults.proofs.Laws.{unless-fine}
 use Rattle.jobs.specs.declared.Kind.{Kind}
 use Rattle.term_checks.specs.Ranges.{one_to}
 use Rattle.checks.specs.Checks.{good_pin, pin_check}
 use Rattle.term_checks.proofs.RangeLaws.{and_right, one-to}
-use Rattle.reading.specs.Got.{after, passing, Told}
+use Rattle.reading.specs.Results.{after, passing, Told}
 use Rattle.reading.proofs.Told.{told-map, told-passing}
 use Rattle.reading.proofs.NumberLines.{count-told}
 use Rattle.reading.proofs.Goes.{and-false}
@@ -28,6 +28,7 @@ use Rattle.lines.specs.Texts.{count_text}
 use Rattle.lines.proofs.Found.{found-fine}
 use Rattle.lines.proofs.Was.{LineWas}
 use Rattle.lines.proofs.Back.{count-back}
+use Rattle.std.specs.Prelude.{Ok, Err}
 
 -- a pin that is not n: its written line finds what the check of the value finds
 pub written_is : (n pin : ℕ) → eqb pin n ≡ false → written_pin n pin ≡ pin_check Kind.Eigen n pin
@@ -39,12 +40,12 @@ written_is n pin e = rw e (ap (λ (b : Bool). bad_unless b Fault.Pin) (and-true 
     and-true false = refl
 
 -- "a written pin of n"
-pub written_last : (n pin : ℕ) → pin ≡ n → written_pin n pin ≡ Finding.Bad Fault.Pin
+pub written_last : (n pin : ℕ) → pin ≡ n → written_pin n pin ≡ Err Fault.Pin
 unfolding written_pin bad_unless
 written_last n pin e = rw (eq-eqb pin n e) (ap (λ (b : Bool). bad_unless b Fault.Pin) (and-false (good_pin n pin)))
 
 -- beyond n the check finds it too
-far-found : (n pin : ℕ) → n < pin → pin_check Kind.Eigen n pin ≡ Finding.Bad Fault.Pin
+far-found : (n pin : ℕ) → n < pin → pin_check Kind.Eigen n pin ≡ Err Fault.Pin
 unfolding pin_check one_to bad_unless
 far-found n pin p = rw (lt-leb pin n p, le-leb 1 pin (omega arith))
 
@@ -57,7 +58,7 @@ pin-back n pin s e =
     (λ p. rw (lt-leb pin n p, far-found n pin p))
     (λ p. rw (le-leb pin n p) (ap (λ (f : Finding). after (found f) (λ u. pin)) (written_is n pin e))))
 
-written-other : (n pin : ℕ) → written_pin n pin ≡ Finding.Fine → eqb pin n ≡ false
+written-other : (n pin : ℕ) → written_pin n pin ≡ Ok tt → eqb pin n ≡ false
 unfolding written_pin
 written-other n pin w = not-true _ (and_right (good_pin n pin) _ (unless-fine _ Fault.Pin w))
 
@@ -77,6 +78,6 @@ pin-told n l =
     })
 
 -- a pin that the check takes can be spelled
-pub pin-spelled : (n pin : ℕ) → n ≤ n_max → pin_check Kind.Eigen n pin ≡ Finding.Fine → pin < 10 ^ digits_max
+pub pin-spelled : (n pin : ℕ) → n ≤ n_max → pin_check Kind.Eigen n pin ≡ Ok tt → pin < 10 ^ digits_max
 unfolding pin_check
 pin-spelled n pin few e = omega (arith, (one-to n pin (unless-fine _ Fault.Pin e)).1)

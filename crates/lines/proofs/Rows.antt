@@ -13,7 +13,6 @@ use Rattle.lists.proofs.Tab.{length-tab, get_or-tab, tab-cong}
 use Rattle.digits.specs.Number.{digits_max}
 use Rattle.text.specs.Lists.{places_max, Below, Small}
 use Rattle.faults.specs.declared.Fault.{Fault}
-use Rattle.faults.specs.declared.Finding.{Finding}
 use Rattle.faults.specs.Checks.{bad_unless}
 use Rattle.faults.proofs.Laws.{unless-fine}
 use Rattle.jobs.specs.Places.{row_at}
@@ -28,6 +27,7 @@ use Rattle.reading.proofs.NumberLines.{below-tab}
 use Rattle.lines.specs.Places.{cells, rows_of, live_rows}
 use Rattle.lines.specs.Texts.{entry_of, matrix_list}
 use Rattle.lines.proofs.Checks.{live_at, within-live}
+use Rattle.std.specs.Prelude.{Ok}
 
 -- n rows of n have room
 pub square-fits : (n : ℕ) → n ≤ n_max → n * n ≤ places_max
@@ -126,7 +126,7 @@ module _ (n : ℕ) (some : 0 < n) (few : n ≤ n_max) where
         below-tab d (n * n) (entry_of rows n) (λ k l.
         omega (arith, (w (k / n) (line-live k l) (k % n) (column-live k)).abs))
 
-    pub matrix-small : inverse_check n rows ≡ Finding.Fine → Small (matrix_list rows n)
+    pub matrix-small : inverse_check n rows ≡ Ok tt → Small (matrix_list rows n)
     unfolding inverse_check good_matrix
     matrix-small e =
         matrix-within digits_max (omega arith) (λ i l.

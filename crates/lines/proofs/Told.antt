@@ -12,10 +12,10 @@ use Rattle.text.specs.Lists.{places_max, show_list}
 use Rattle.text.specs.Words.{lo_key, hi_key, inv_key, row_key}
 use Rattle.term_write.proofs.Joined.{tab-next}
 use Rattle.faults.specs.declared.Fault.{Fault}
-use Rattle.faults.specs.declared.Finding.{Finding}
+use Rattle.faults.specs.Checked.{Finding}
 use Rattle.checks.specs.Checks.{low_check, high_check, inverse_check, row_check, sided_check}
 use Rattle.jobs.specs.declared.Row.{Row}
-use Rattle.reading.specs.Got.{Told, passing}
+use Rattle.reading.specs.Results.{Told, passing}
 use Rattle.reading.specs.NumberLines.{placed}
 use Rattle.reading.proofs.Told.{told-map, told-after, told-passing}
 use Rattle.reading.proofs.NumberLines.{row-line-told}

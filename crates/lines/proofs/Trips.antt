@@ -7,7 +7,7 @@ use mathlib.Core.Logic.{◌↔◌}
 use Prim.Native.Nat.{ℕ}
 use lib.ListN.{length}
 use Rattle.faults.specs.declared.Fault.{Fault}
-use Rattle.faults.specs.declared.Status.{Status}
+use Rattle.faults.specs.Checked.{Status}
 use Rattle.reading.specs.Lines.{Form, Answer, read, bytes}
 use Rattle.reading.specs.Shows.{Shows, shown, live, Passed, judged}
 use Rattle.reading.proofs.Trips.{Laws}
@@ -15,6 +15,7 @@ use Rattle.reading.proofs.Trips as trips
 use Rattle.reading.proofs.Walk as walk
 use Rattle.lines.specs.Found.{status_of}
 use Rattle.lines.proofs.Found.{status-done}
+use Rattle.std.specs.Prelude.{Ok}
 
 module _ {L X : Type 0} (g : Form Fault L X) (w : Shows Fault L X) (Has Spelt : X → L → Type 0)
     (laws : Laws g w Has Spelt) (check : X → Status) (is : (q : X) → status_of (judged g w q) ≡ check q) where
@@ -22,19 +23,19 @@ module _ {L X : Type 0} (g : Form Fault L X) (w : Shows Fault L X) (Has Spelt : 
       → status_of (read g (bytes (shown w q))) ≡ check q
   same-order q s h = ap status_of (trips.same-order g w Has Spelt laws q s h) ∙ is q
 
-  pub done-passed : (q : X) → check q ≡ Status.Done → Passed w (w.prior w.end q) q
+  pub done-passed : (q : X) → check q ≡ Ok tt → Passed w (w.prior w.end q) q
   done-passed q e =
       let d = status-done (judged g w q) (is q ∙ e) in
       walk.done-passed g w q (w.prior w.end q) d.0 d.1
 
-  passed-done : (q : X) → Passed w (w.prior w.end q) q → check q ≡ Status.Done
+  passed-done : (q : X) → Passed w (w.prior w.end q) q → check q ≡ Ok tt
   passed-done q p = sym (is q) ∙ ap status_of (walk.passed-done g w q (w.prior w.end q) p)
 
-  pub read-write : (q : X) → check q ≡ Status.Done → read g (bytes (shown w q)) ≡ Answer.done (live w q)
+  pub read-write : (q : X) → check q ≡ Ok tt → read g (bytes (shown w q)) ≡ Answer.done (live w q)
   read-write q e = trips.read-write g w Has Spelt laws q (done-passed q e)
 
   pub exactly : (t : List ℕ) (q : X)
-      → (read g t ≡ Answer.done q) ↔ ((bytes (shown w q) ≡ t) × (check q ≡ Status.Done) × (live w q ≡ q))
+      → (read g t ≡ Answer.done q) ↔ ((bytes (shown w q) ≡ t) × (check q ≡ Ok tt) × (live w q ≡ q))
   exactly t q =
       let whole = trips.exactly g w Has Spelt laws t q in (
         λ e. let r = whole.0 e in (r.0, passed-done q r.1.passed, r.1.only),

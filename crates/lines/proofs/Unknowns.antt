@@ -20,18 +20,19 @@ use Rattle.checks.specs.Checks.{unknowns_check}
 use Rattle.term_text.specs.Terms.{one_digit}
 use Rattle.digits.specs.Digits.{is_digit, all_digits}
 use Rattle.term_round.proofs.WriteBack.{digit-is}
-use Rattle.reading.specs.Got.{Got, after, passing, Told}
+use Rattle.reading.specs.Results.{after, passing, Told}
 use Rattle.reading.proofs.Told.{not-false, told-got, told-unless, told-map, told-passing}
 use Rattle.lines.specs.Found.{found}
 use Rattle.lines.specs.Lines.{digit_is, unknowns_of}
 use Rattle.lines.specs.Texts.{count_text}
 use Rattle.lines.proofs.Was.{LineWas}
+use Rattle.std.specs.Prelude.{Ok}
 
 one-digit : (n : ℕ) → n < 10 → one_digit ((digit0 + n) ∷ []) ≡ true
 unfolding one_digit all_digits all_b is_digit
 one-digit n h = rw (le-leb digit0 (digit0 + n) (omega arith), le-leb (digit0 + n) digit9 (omega arith))
 
-pub digit-back : (n : ℕ) → n < 10 → digit_is (body_of n_key (count_text n_key n)) ≡ Got.got n
+pub digit-back : (n : ℕ) → n < 10 → digit_is (body_of n_key (count_text n_key n)) ≡ Ok n
 unfolding digit_is
 digit-back n h =
     let e : digit0 + n - digit0 ≡ n = omega arith in

@@ -7,14 +7,14 @@ use lib.Dec.{leb}
 use borrow.Author.Tests.{le-leb}
 use Rattle.sizes.specs.Sizes.{number_max, visit_max, steps_max}
 use Rattle.faults.specs.declared.Fault.{Fault}
-use Rattle.faults.specs.declared.Finding.{Finding}
+use Rattle.faults.specs.Checked.{Finding}
 use Rattle.faults.specs.Checks.{bad_unless}
 use Rattle.faults.proofs.Laws.{fine-unless}
 use Rattle.text.specs.Words.{job_key, visit_key, steps_key}
 use Rattle.checks.specs.Checks.{number_check, steps_check}
 use Rattle.checks.specs.CheckResult.{visit_check}
 use Rattle.jobs.specs.declared.Kind.{Kind}
-use Rattle.reading.specs.Got.{Got, Told}
+use Rattle.reading.specs.Results.{Told}
 use Rattle.reading.specs.NumberLines.{count_line}
 use Rattle.reading.proofs.Told.{told-map}
 use Rattle.reading.proofs.NumberLines.{count-told}
@@ -22,11 +22,12 @@ use Rattle.lines.specs.Found.{found}
 use Rattle.lines.specs.Lines.{number_of, visit_of, steps_of, kind_of}
 use Rattle.lines.specs.Texts.{count_text, kind_text}
 use Rattle.lines.proofs.Words.{kind-told}
+use Rattle.std.specs.Prelude.{Ok}
 
 pub record LineWas {A : Type 0} (text : A → List ℕ) (check : A → Finding) (live : A → A) (l : List ℕ) (x : A)
     : Type 0 where
   pub shown : text x ≡ l
-  pub fine : found (check x) ≡ Got.got tt
+  pub fine : found (check x) ≡ Ok tt
   pub whole : live x ≡ x
 
 limit-told : (f : Fault) (key : List ℕ) (most : ℕ) (l : List ℕ)
@@ -51,5 +52,5 @@ pub steps-told : (l : List ℕ) → Told (LineWas (count_text steps_key) steps_c
 unfolding steps_of steps_check
 steps-told = limit-told Fault.Steps steps_key steps_max
 
-pub kind-was : (l : List ℕ) → Told (LineWas kind_text (λ (k : Kind). Finding.Fine) (λ k. k) l) (kind_of l)
+pub kind-was : (l : List ℕ) → Told (LineWas kind_text (λ (k : Kind). (Ok tt)) (λ k. k) l) (kind_of l)
 kind-was l = told-map _ (kind-told l) (λ k e. record { shown = e; fine = refl; whole = refl })

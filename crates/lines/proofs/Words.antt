@@ -11,17 +11,19 @@ use Rattle.text.proofs.Pieces.{Above}
 use Rattle.faults.specs.declared.Fault.{Fault}
 use Rattle.jobs.specs.declared.Kind.{Kind}
 use Rattle.jobs.specs.declared.Verdict.{Verdict}
-use Rattle.reading.specs.Got.{Got, Told}
+use Rattle.reading.specs.Results.{Told}
 use Rattle.reading.proofs.Told.{told-got, told-fault}
 use Rattle.lines.specs.Lines.{word_or, kind_of, verdict_of}
 use Rattle.lines.specs.Texts.{kind_text, verdict_text}
+use Rattle.std.specs.Prelude.{Ok}
+use Rattle.faults.specs.Checked.{Found}
 
 -- one word more
-word_test : {A : Type 0} (show : A → List ℕ) (l : List ℕ) (u : A) (other : Got Fault A) → Told (λ v. show v ≡ l) other
+word_test : {A : Type 0} (show : A → List ℕ) (l : List ℕ) (u : A) (other : Found A) → Told (λ v. show v ≡ l) other
     → Told (λ v. show v ≡ l) (word_or l (show u) u other)
 word_test {A} show l u other p = go (same_bytes (show u) l) refl
   where
-    go : (t : Bool) → same_bytes (show u) l ≡ t → Told (λ v. show v ≡ l) (cond t (Got.got u) other)
+    go : (t : Bool) → same_bytes (show u) l ≡ t → Told (λ v. show v ≡ l) (cond t (Ok u) other)
     go true e = told-got u (same-was (show u) l e)
     go false e = p
 
@@ -34,7 +36,7 @@ verdict-above Verdict.Unique = omega arith
 verdict-above Verdict.Stalled = omega arith
 verdict-above Verdict.Spent = omega arith
 
-pub verdict-back : (v : Verdict) → verdict_of (verdict_text v) ≡ Got.got v
+pub verdict-back : (v : Verdict) → verdict_of (verdict_text v) ≡ Ok v
 unfolding verdict_of same_bytes starts_with
 verdict-back Verdict.None = refl
 verdict-back Verdict.Unique = refl
@@ -57,7 +59,7 @@ kind-above Kind.Poly = omega arith
 kind-above Kind.Linear = omega arith
 kind-above Kind.Eigen = omega arith
 
-pub kind-back : (k : Kind) → kind_of (kind_text k) ≡ Got.got k
+pub kind-back : (k : Kind) → kind_of (kind_text k) ≡ Ok k
 unfolding kind_of same_bytes starts_with
 kind-back Kind.Poly = refl
 kind-back Kind.Linear = refl

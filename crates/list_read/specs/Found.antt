@@ -1,11 +1,11 @@
 -- What is found of the spelling of a list.
-use Rattle.std.specs.Prelude.{ℕ, not, eqb}
+use Rattle.std.specs.Prelude.{ℕ, not, eqb, Ok}
 use Rattle.faults.specs.declared.Fault.{Fault}
-use Rattle.faults.specs.declared.Finding.{Finding}
+use Rattle.faults.specs.Checked.{Finding, Found}
 use Rattle.faults.specs.Checks.{bad_unless, first_of}
 use Rattle.jobs.specs.declared.Equation.{Equation}
 use Rattle.term_text.specs.declared.Terms.{Terms}
-use Rattle.reading.specs.Got.{Got, refuse}
+use Rattle.reading.specs.Results.{refuse}
 use Rattle.scan.specs.declared.ListAt.{ListAt}
 use Rattle.term_read.specs.declared.TermsAt.{TermsAt}
 
@@ -18,5 +18,5 @@ unfoldable pub terms_found : TermsAt → Finding
 terms_found l = first_of (bad_unless l.ok Fault.Spelling) (bad_unless (not l.far) Fault.Beyond)
 
 -- its equation before it is checked
-unfoldable pub terms_is : Terms → Got Fault Equation
-terms_is a = refuse (not a.ok) Fault.Spelling (refuse a.far Fault.Beyond (Got.got a.equation))
+unfoldable pub terms_is : Terms → Found Equation
+terms_is a = refuse (not a.ok) Fault.Spelling (refuse a.far Fault.Beyond (Ok a.equation))

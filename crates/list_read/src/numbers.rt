@@ -1,7 +1,7 @@
 // The lines that hold a list of numbers.
 ghost use Rattle.std.specs.Prelude.{◌≡◌, ◌≤◌, length};
 ghost use Rattle.sizes.specs.Sizes.{n_max};
-ghost use Rattle.reading.specs.Got.{after};
+ghost use Rattle.reading.specs.Results.{after};
 ghost use Rattle.lines.specs.Found.{found};
 ghost use Rattle.lines.specs.Lines.{low_of, any_low_of, high_of, inverse_of, row_of};
 ghost use Rattle.line_read.specs.At.{said, onward, cells_at, low_at, rows_at};

@@ -1,7 +1,7 @@
 // The lines of a system.
 ghost use Rattle.std.specs.Prelude.{◌≡◌, ◌≤◌, length};
 ghost use Rattle.sizes.specs.Sizes.{n_max};
-ghost use Rattle.reading.specs.Got.{after};
+ghost use Rattle.reading.specs.Results.{after};
 ghost use Rattle.lines.specs.Found.{found};
 ghost use Rattle.lines.specs.Lines.{sided_of, equation_of};
 ghost use Rattle.line_read.specs.At.{said, onward, sided_at, equation_at};

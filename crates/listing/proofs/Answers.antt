@@ -18,7 +18,7 @@ use Rattle.text.specs.Lists.{Below}
 use Rattle.reading.proofs.NumberLines.{below-tab}
 use Rattle.writing.proofs.Lists.{taken-first}
 use Rattle.faults.specs.declared.Fault.{Fault}
-use Rattle.faults.specs.declared.Status.{Status}
+use Rattle.faults.specs.Checked.{Status, refused, status_of}
 use Rattle.faults.specs.Checks.{and_then}
 use Rattle.faults.proofs.Laws.{good-first}
 use Rattle.jobs.specs.declared.Job.{Job}
@@ -39,6 +39,7 @@ use Rattle.listing.specs.declared.Listing.{Listing}
 use Rattle.listing.specs.Lines.{EntryIn, head_lines, first_lines}
 use Rattle.listing.specs.Listing.{no_listing, listing_text, ListsAs, ListsJob, list_status, ListsText}
 use Rattle.listing.proofs.Entries.{box_at, box-among, low-at, high-at, first-lines}
+use Rattle.std.specs.Prelude.{Ok, Err}
 
 -- ---- the ends of a box in range are short
 module _ {n : ℕ} (x : List Interval) (box : BoxIn n (side_at x)) where
@@ -83,8 +84,8 @@ module _ (j : Job) (a : Accepted j) (depth : ℕ) (rest : List ℤ) where
 
 -- ---- of values
 module _ (j : Job) (depth : ℤ) (old : List ℤ) where
-  lists-refused : (f : Fault) (line : ℕ) → ListsAs (Status.Refused f line) j depth old old
-      (no_listing (Status.Refused f line))
+  lists-refused : (f : Fault) (line : ℕ) → ListsAs (refused f line) j depth old old
+      (no_listing (refused f line))
   lists-refused f line = record {
     answer = refl;
     list = refl;
@@ -92,26 +93,26 @@ module _ (j : Job) (depth : ℤ) (old : List ℤ) where
   }
 
   -- what halving answers beside its boxes
-  kept : (st : Status) (count : ℕ) → (halved_by st count).status ≡ st
-  kept Status.Done count = refl
-  kept (Status.Refused f line) count = refl
+  kept : (st : Status) (count : ℕ) → status_of (halved_by st count) ≡ st
+  kept (Ok tt) count = refl
+  kept (Err r) count = refl
 
   module _ {new : List ℤ} {h : Halved} (halves : Halves j depth old new h) where
     status-is : halve_status j depth (length old) ≡ h.status
     status-is = sym (ap (λ (h : Halved). h.status) halves.answer ∙ kept _ _)
 
-    count-is : halve_status j depth (length old) ≡ Status.Done → h.boxes ≡ length (boxes_of j (nat_abs depth))
+    count-is : halve_status j depth (length old) ≡ Ok tt → h.boxes ≡ length (boxes_of j (nat_abs depth))
     count-is e = ap (λ (h : Halved). h.boxes) (rw e at halves.answer)
 
-  pub job-refused : {new : List ℤ} {h : Halved} (f : Fault) (line : ℕ) → h.status ≡ Status.Refused f line
-      → Halves j depth old new h → ListsJob j depth old new (no_listing (Status.Refused f line))
+  pub job-refused : {new : List ℤ} {h : Halved} (f : Fault) (line : ℕ) → h.status ≡ refused f line
+      → Halves j depth old new h → ListsJob j depth old new (no_listing (refused f line))
   job-refused f line e h =
       let s = status-is h ∙ e in
       rw s (rw (rw s at h.list) (lists-refused f line))
 
-  pub job-listed : {new : List ℤ} {h : Halved} → h.status ≡ Status.Done → Halves j depth old new h
+  pub job-listed : {new : List ℤ} {h : Halved} → h.status ≡ Ok tt → Halves j depth old new h
       → ListsJob j depth old new
-      (record { status = Status.Done; number = j.head.number; n = j.head.n; boxes = h.boxes })
+      (record { status = Ok tt; number = j.head.number; n = j.head.n; boxes = h.boxes })
   job-listed {new} {h} e halves =
       let s = status-is halves ∙ e in
       let count = count-is halves s in
@@ -129,12 +130,12 @@ module _ (j : Job) (depth : ℤ) (old : List ℤ) where
 
 -- ---- of a job text
 module _ (t : List ℕ) (depth : ℤ) (old : List ℤ) where
-  pub text-refused : (f : Fault) (line : ℕ) → (read_job t).status ≡ Status.Refused f line
-      → ListsText t depth old old (no_listing (Status.Refused f line))
+  pub text-refused : (f : Fault) (line : ℕ) → status_of (read_job t) ≡ refused f line
+      → ListsText t depth old old (no_listing (refused f line))
   unfolding list_status and_then
-  text-refused f line e = rw e (lists-refused (read_job t).job depth old f line)
+  text-refused f line e = rw e (lists-refused (job_in (read_job t)) depth old f line)
 
-  pub text-listed : {new : List ℤ} {r : Listing} → (read_job t).status ≡ Status.Done
-      → ListsJob (read_job t).job depth old new r → ListsText t depth old new r
+  pub text-listed : {new : List ℤ} {r : Listing} → status_of (read_job t) ≡ Ok tt
+      → ListsJob (job_in (read_job t)) depth old new r → ListsText t depth old new r
   unfolding list_status
   text-listed e h = rw (good-first _ _ e) h

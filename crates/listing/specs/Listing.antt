@@ -1,8 +1,8 @@
 -- What is answered where the boxes of a job, or of a job text, are listed.
-use Rattle.std.specs.Prelude.{ℕ, ◌≤◌, ◌<◌, ◌≡◌, List, [], ◌∷◌, ◌++◌, ℤ, nat_abs, length, take}
+use Rattle.std.specs.Prelude.{ℕ, ◌≤◌, ◌<◌, ◌≡◌, List, [], ◌∷◌, ◌++◌, ℤ, nat_abs, length, take, Ok, Err}
 use Rattle.sizes.specs.Sizes.{boxes_max}
 use Rattle.faults.specs.Checks.{and_then}
-use Rattle.faults.specs.declared.Status.{Status}
+use Rattle.faults.specs.Checked.{Status, status_of}
 use Rattle.jobs.specs.declared.Job.{Job}
 use Rattle.job_form.specs.JobForm.{read_job}
 use Rattle.step.specs.Values.{low_ends, high_ends}
@@ -29,13 +29,13 @@ abbrev pub no_listing : Status → Listing
 no_listing st = record { status = st; number = 0; n = 0; boxes = 0 }
 
 abbrev pub listing_by : Status → Job → ℕ → Listing
-listing_by Status.Done j boxes = record {
-  status = Status.Done;
+listing_by (Ok tt) j boxes = record {
+  status = Ok tt;
   number = j.head.number;
   n = j.head.n;
   boxes = boxes;
 }
-listing_by (Status.Refused f line) j boxes = no_listing (Status.Refused f line)
+listing_by (Err r) j boxes = no_listing (Err r)
 
 -- the pieces of a listing can be written from its list
 pub record Readable (l : Listing) (list : List ℤ) : Type 0 where
@@ -54,7 +54,7 @@ ListsJob j depth old new r = ListsAs (halve_status j depth (length old)) j depth
 
 -- of a job text: "the job's own" refusals come first
 unfoldable pub list_status : List ℕ → ℤ → ℕ → Status
-list_status t depth room = and_then (read_job t).status (halve_status (read_job t).job depth room)
+list_status t depth room = and_then (status_of (read_job t)) (halve_status (job_in (read_job t)) depth room)
 
 abbrev pub ListsText : List ℕ → ℤ → List ℤ → List ℤ → Listing → Type 0
-ListsText t depth old new r = ListsAs (list_status t depth (length old)) (read_job t).job depth old new r
+ListsText t depth old new r = ListsAs (list_status t depth (length old)) (job_in (read_job t)) depth old new r

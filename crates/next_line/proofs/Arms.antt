@@ -6,9 +6,9 @@ use mathlib.Core.Bool.{Bool, true, false, true≢false, false≢true}
 use lib.ListN.{length}
 use borrow.Author.Tests.{lt-ltb, eq-eqb}
 use Rattle.faults.specs.declared.Fault.{Fault}
-use Rattle.faults.specs.declared.Finding.{Finding}
+use Rattle.faults.specs.Checked.{Finding, Found}
 use Rattle.faults.specs.Checks.{is_fine}
-use Rattle.reading.specs.Got.{Got, after}
+use Rattle.reading.specs.Results.{after}
 use Rattle.reading.specs.Lines.{Next, State, heard, step}
 use Rattle.reading.specs.Places.{line_end, line_at}
 use Rattle.scan.specs.Lines.{line_of}
@@ -21,14 +21,15 @@ use Rattle.line_read.specs.At.{said}
 use Rattle.line_read.specs.States.{Tells}
 use Rattle.next_line.specs.declared.Read.{Read}
 use Rattle.next_line.specs.State.{kind_of, line_in, head_of, job_of, with_state, stopped_by, hearing, line_taken}
+use Rattle.std.specs.Prelude.{Ok, Err}
 
 -- an LF ends the line
-pub said-ended : {A : Type 0} (f : List ℕ → Got Fault A) (t : List ℕ) → line_end t 0 < length t
+pub said-ended : {A : Type 0} (f : List ℕ → Found A) (t : List ℕ) → line_end t 0 < length t
     → said f t 0 ≡ f (line_of t 0)
 unfolding line_at
 said-ended f t h = rw (lt-ltb (line_end t 0) (length t) h)
 
-module _ {A : Type 0} (f : List ℕ → Got Fault A) (put : A → Next JobLine Job) (r : Read) (m : ℕ) (t : List ℕ)
+module _ {A : Type 0} (f : List ℕ → Found A) (put : A → Next JobLine Job) (r : Read) (m : ℕ) (t : List ℕ)
     (ends : line_end t 0 < length t) {b next : ℕ} {found : Finding} {x : A} (tells : Tells (said f t 0) b found next x)
   where
     -- what a line of this function leaves
@@ -40,20 +41,20 @@ module _ {A : Type 0} (f : List ℕ → Got Fault A) (put : A → Next JobLine J
     unfolding heard after
     left-fine {fine} q w = go (f (line_of t 0)) refl
       where
-        go : (g : Got Fault A) → f (line_of t 0) ≡ g
+        go : (g : Found A) → f (line_of t 0) ≡ g
             → with_state r (State.at (put x).kind (put x).value) ≡ with_state r (heard m (after g put))
-        go (Got.got y) e = rw (tells.fine y (said-ended f t ends ∙ e)).1
-        go (Got.fault d) e =
+        go (Ok y) e = rw (tells.fine y (said-ended f t ends ∙ e)).1
+        go (Err d) e =
             absurd (false≢true (sym (ap is_fine (tells.bad d (said-ended f t ends ∙ e)).0) ∙ sym q ∙ w))
 
     pub left-bad : {fine : Bool} → fine ≡ is_fine found → fine ≡ false → stopped_by r found m ≡ left
     unfolding heard after
     left-bad {fine} q w = go (f (line_of t 0)) refl
       where
-        go : (g : Got Fault A) → f (line_of t 0) ≡ g → stopped_by r found m ≡ with_state r (heard m (after g put))
-        go (Got.got y) e =
+        go : (g : Found A) → f (line_of t 0) ≡ g → stopped_by r found m ≡ with_state r (heard m (after g put))
+        go (Ok y) e =
             absurd (true≢false (sym (ap is_fine (tells.fine y (said-ended f t ends ∙ e)).0) ∙ sym q ∙ w))
-        go (Got.fault d) e = rw (tells.bad d (said-ended f t ends ∙ e)).0
+        go (Err d) e = rw (tells.bad d (said-ended f t ends ∙ e)).0
 
 -- a line of the system, by its kind
 pub hearing-system : (r : Read) (m i : ℕ) (t : List ℕ) {k : Kind} {s : Read} → kind_of r.kind ≡ k
@@ -72,7 +73,7 @@ hearing-next r t good e left number w =
 
 -- "bytes after the last line are an extra line"
 pub hearing-extra : (r : Read) (t : List ℕ) {m : ℕ} {s : Read} → r.fault ≡ 0 → line_in r.next ≡ JobLine.End
-    → m ≡ job_number (line_in r.next) (head_of r) → s ≡ stopped_by r (Finding.Bad Fault.Spelling) m → s ≡ line_taken r t
+    → m ≡ job_number (line_in r.next) (head_of r) → s ≡ stopped_by r (Err Fault.Spelling) m → s ≡ line_taken r t
 unfolding line_taken step
 hearing-extra r t good e number w =
     let is = number ∙ ap (λ (k : JobLine). job_number k (head_of r)) e in

@@ -11,7 +11,7 @@ use Rattle.faults.specs.declared.Fault.{Fault}
 use Rattle.faults.specs.Words.{fault_number, fault_max}
 use Rattle.text.specs.Keys.{starts_with}
 use Rattle.text.specs.Words.{pin_key}
-use Rattle.reading.specs.Got.{Got, Blamed, after}
+use Rattle.reading.specs.Results.{Blamed, after}
 use Rattle.reading.specs.Lines.{Next, State, heard, step}
 use Rattle.reading.proofs.Told.{fault-got}
 use Rattle.scan.specs.Lines.{line_of}
@@ -31,6 +31,8 @@ use Rattle.job_form.proofs.Faults.{job-says}
 use Rattle.next_line.specs.declared.Read.{Read}
 use Rattle.next_line.specs.State.{kind_number, place_of, line_in, job_of, with_state, line_taken}
 use Rattle.next_line.specs.Limits.{place_max, line_max, kind_max}
+use Rattle.std.specs.Prelude.{Ok, Err}
+use Rattle.faults.specs.Checked.{Found}
 
 -- ---- the place of the next line
 
@@ -114,22 +116,22 @@ abbrev StateRoom : State Fault JobLine Job → Type 0
 StateRoom (State.at k j) = (place_of k ≤ place_max) × (j.head.n ≤ n_max)
 StateRoom (State.bad f m) = (m ≤ line_max) × (fault_number f ≤ fault_max)
 
-abbrev Room : Got Fault (Next JobLine Job) → Type 0
-Room g = (x : Next JobLine Job) → g ≡ Got.got x → NextRoom x
+abbrev Room : Found (Next JobLine Job) → Type 0
+Room g = (x : Next JobLine Job) → g ≡ Ok x → NextRoom x
 
-heard-room : (m : ℕ) → m ≤ line_max → (g : Got Fault (Next JobLine Job)) → Room g → Blamed OfLine g
+heard-room : (m : ℕ) → m ≤ line_max → (g : Found (Next JobLine Job)) → Room g → Blamed OfLine g
     → StateRoom (heard m g)
 unfolding heard
-heard-room m h (Got.got x) p of = p x refl
-heard-room m h (Got.fault f) p of = (h, (of.blamed f refl).of-text)
+heard-room m h (Ok x) p of = p x refl
+heard-room m h (Err f) p of = (h, (of.blamed f refl).of-text)
 
-after_next : {A : Type 0} (g : Got Fault A) (put : A → Next JobLine Job) → ((x : A) → g ≡ Got.got x → NextRoom (put x))
+after_next : {A : Type 0} (g : Found A) (put : A → Next JobLine Job) → ((x : A) → g ≡ Ok x → NextRoom (put x))
     → Room (after g put)
 unfolding after
-after_next (Got.got x) put p y e = let z : put x ≡ y = cc in subst NextRoom z (p x refl)
-after_next (Got.fault f) put p y e = fault-got e
+after_next (Ok x) put p y e = let z : put x ≡ y = cc in subst NextRoom z (p x refl)
+after_next (Err f) put p y e = fault-got e
 
-either : (b : Bool) {g h : Got Fault (Next JobLine Job)} → Room g → Room h → Room (cond b g h)
+either : (b : Bool) {g h : Found (Next JobLine Job)} → Room g → Room h → Room (cond b g h)
 either true p q = p
 either false p q = q
 

@@ -1,8 +1,8 @@
 -- What is read so far of a job text, in numbers alone, and what they stand for.
-use Rattle.std.specs.Prelude.{ℕ, ◌+◌, ◌-◌, List, cond, replicate, eqb, pos}
+use Rattle.std.specs.Prelude.{ℕ, ◌+◌, ◌-◌, List, cond, replicate, eqb, pos, Ok, Err}
 use Rattle.sizes.specs.Sizes.{n_max}
 use Rattle.faults.specs.declared.Fault.{Fault}
-use Rattle.faults.specs.declared.Finding.{Finding}
+use Rattle.faults.specs.Checked.{Finding}
 use Rattle.faults.specs.Words.{fault_number, fault_of}
 use Rattle.reading.specs.Lines.{State, heard, step}
 use Rattle.scan.specs.Lines.{line_of}
@@ -121,8 +121,8 @@ with_state r (State.bad f m) = record {
 
 -- what a finding leaves where it is bad
 abbrev pub stopped_by : Read → Finding → ℕ → Read
-stopped_by r Finding.Fine m = r
-stopped_by r (Finding.Bad f) m = with_state r (State.bad f m)
+stopped_by r (Ok tt) m = r
+stopped_by r (Err f) m = with_state r (State.bad f m)
 
 -- a line of this kind and number, from the start of these bytes to their first LF
 unfoldable pub hearing : Read → ℕ → JobLine → List ℕ → Read

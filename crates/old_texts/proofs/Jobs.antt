@@ -6,20 +6,19 @@ use mathlib.Core.List.{List, foldl}
 use mathlib.Core.Logic.{◌⊎◌, inl, inr}
 use lib.ListN.{drop}
 use Rattle.faults.specs.declared.Fault.{Fault}
-use Rattle.faults.specs.declared.Status.{Status}
+use Rattle.faults.specs.Checked.{Checked, refused, status_of}
 use Rattle.jobs.specs.declared.Job.{Job}
 use Rattle.jobs.specs.declared.JobLine.{JobLine}
 use Rattle.jobs.specs.Lines.{job_number}
 use Rattle.checks.specs.Checks.{check_job}
 use Rattle.checks.proofs.AcceptedLaws.{check_done}
-use Rattle.reading.specs.Got.{after}
+use Rattle.reading.specs.Results.{after}
 use Rattle.reading.specs.Lines.{State, Answer, heard, step, begin, read}
 use Rattle.reading.specs.Shows.{shown, Passed}
 use Rattle.reading.specs.Narrower.{NarrowLine, Narrower, NarrowAnswer}
 use Rattle.reading.proofs.Decided.{stays-bad}
 use Rattle.reading.proofs.Walk.{all_above, line_read}
 use Rattle.reading.proofs.Narrower.{narrow-read, lines-bad}
-use Rattle.job_form.specs.declared.JobRead.{JobRead}
 use Rattle.job_form.specs.JobForm.{job_says, job_form_of, job_answer, refused_with, read_job}
 use Rattle.job_form.specs.JobBytes.{job_line, job_prior, job_shows, job_bytes}
 use Rattle.job_form.specs.Live.{job_upto}
@@ -30,6 +29,7 @@ use Rattle.job_form.proofs.Answers.{answer-status, read-checked, read_same, exac
 use Rattle.old_texts.specs.Old.{n_old, text_old, old_job_says, old_job_form, old_read_job}
 use Rattle.old_texts.proofs.Lines.{after-narrow, unknowns-narrow, unknowns-refused}
 use Rattle.old_texts.proofs.Lines as lines
+use Rattle.std.specs.Prelude.{Ok}
 
 narrower : Narrower job_form_of old_job_says text_old Fault.Unknowns 3
 unfolding old_job_says
@@ -55,26 +55,26 @@ old-answer = narrow-read job_form_of old_job_says text_old Fault.Unknowns 3 narr
 -- the same answer, or 3 on line 3, or 1
 pub same_or : (t : List ℕ)
     → (old_read_job t ≡ read_job t)
-    ⊎ ((old_read_job t ≡ refused_with (Status.Refused Fault.Unknowns 3))
-    ⊎ (old_read_job t ≡ refused_with (Status.Refused Fault.LongText 0)))
+    ⊎ ((old_read_job t ≡ refused Fault.Unknowns 3)
+    ⊎ (old_read_job t ≡ refused Fault.LongText 0))
 unfolding read_job old_read_job
 same_or = lines.same_or (read old_job_form) (read job_form_of) old-answer job_answer
 
 -- where it answers neither 1 nor 3
-pub same_otherwise : (t : List ℕ) → ((n : ℕ) → (old_read_job t).status ≡ Status.Refused Fault.LongText n → ⊥)
-    → ((n : ℕ) → (old_read_job t).status ≡ Status.Refused Fault.Unknowns n → ⊥) → read_job t ≡ old_read_job t
+pub same_otherwise : (t : List ℕ) → ((n : ℕ) → status_of (old_read_job t) ≡ refused Fault.LongText n → ⊥)
+    → ((n : ℕ) → status_of (old_read_job t) ≡ refused Fault.Unknowns n → ⊥) → read_job t ≡ old_read_job t
 unfolding read_job old_read_job
 same_otherwise =
     lines.same_otherwise (read old_job_form) (read job_form_of) old-answer job_answer (λ x. x.status) answer-status
 
-done-too : (t : List ℕ) → (old_read_job t).status ≡ Status.Done → read_job t ≡ old_read_job t
+done-too : (t : List ℕ) → status_of (old_read_job t) ≡ Ok tt → read_job t ≡ old_read_job t
 unfolding read_job old_read_job
 done-too = lines.done-too (read old_job_form) (read job_form_of) old-answer job_answer (λ x. x.status) answer-status
 
-pub as_before : (t : List ℕ) (j : Job) → old_read_job t ≡ record { status = Status.Done; job = j }
-    → (read_job t ≡ record { status = Status.Done; job = j }) × (job_bytes j ≡ t)
+pub as_before : (t : List ℕ) (j : Job) → old_read_job t ≡ Ok j
+    → (read_job t ≡ Ok j) × (job_bytes j ≡ t)
 as_before t j e =
-    let now = done-too t (ap (λ (x : JobRead). x.status) e) ∙ e in
+    let now = done-too t (ap (λ (x : Checked Job). x.status) e) ∙ e in
     (now, ((exactly t j).0 now).0)
 
 -- ---- a right text of more unknowns
@@ -103,16 +103,16 @@ module _ (j : Job) (passed : Passed job_shows (job_prior JobLine.End j) j) (many
       ∙ stays-bad old_job_form (drop 3 (shown job_shows j)) Fault.Unknowns 3
 
 -- no right text is too long for the old program
-old-refuses : (j : Job) → check_job j ≡ Status.Done → n_old < j.head.n
+old-refuses : (j : Job) → check_job j ≡ Ok tt → n_old < j.head.n
     → read old_job_form (job_bytes j) ≡ Answer.refused Fault.Unknowns 3
 old-refuses j checked many =
     lines-bad old_job_form (shown job_shows j) Fault.Unknowns 3
     (all_above job_shows j (plain j) (job_prior JobLine.End j))
     (omega (arith, job-width j (check_done j checked))) (lines-refused j (checked-passed j checked) many)
 
-pub right_new : (t : List ℕ) → (read_job t).status ≡ Status.Done → n_old < (read_job t).job.head.n
-    → old_read_job t ≡ refused_with (Status.Refused Fault.Unknowns 3)
+pub right_new : (t : List ℕ) → status_of (read_job t) ≡ Ok tt → n_old < (job_in (read_job t)).head.n
+    → old_read_job t ≡ refused Fault.Unknowns 3
 unfolding old_read_job
 right_new t e many =
     ap (λ (x : List ℕ). job_answer (read old_job_form x)) (sym (read_same t e))
-    ∙ ap job_answer (old-refuses (read_job t).job (read-checked t e) many)
+    ∙ ap job_answer (old-refuses (job_in (read_job t)) (read-checked t e) many)

@@ -13,14 +13,13 @@ use Rattle.text.specs.Keys.{body_of}
 use Rattle.text.specs.Words.{n_key, lo_key}
 use Rattle.text.specs.Lists.{Small}
 use Rattle.faults.specs.declared.Fault.{Fault}
-use Rattle.faults.specs.declared.Finding.{Finding}
-use Rattle.faults.specs.declared.Status.{Status}
+use Rattle.faults.specs.Checked.{Finding, Status, Found, refused}
 use Rattle.faults.specs.Checks.{bad_unless, first_of}
 use Rattle.term_checks.specs.Ranges.{one_to}
 use Rattle.term_checks.proofs.RangeLaws.{one-to, to_one}
 use Rattle.checks.specs.Checks.{low_check, unknowns_check}
 use Rattle.checks.specs.CheckResult.{count_check, counted_check}
-use Rattle.reading.specs.Got.{Got, after, passing}
+use Rattle.reading.specs.Results.{after, passing}
 use Rattle.reading.specs.NumberLines.{placed, Listed, list_line}
 use Rattle.reading.specs.Lines.{Answer}
 use Rattle.reading.specs.Narrower.{NarrowLine, NarrowAnswer}
@@ -30,20 +29,21 @@ use Rattle.lines.specs.Lines.{digit_is, unknowns_of, any_low_of}
 use Rattle.lines.specs.Texts.{count_text, row_text}
 use Rattle.lines.proofs.Unknowns.{digit-back, unknowns-back}
 use Rattle.old_texts.specs.Old.{n_old, old_unknowns, old_unknowns_of, old_count, old_counted, old_low_of}
+use Rattle.std.specs.Prelude.{Ok, Err, Result}
 
-pub after-narrow : {F A B : Type 0} {f : F} {r s : Got F A} (h : A → B) → NarrowLine f r s
+pub after-narrow : {F A B : Type 0} {f : F} {r s : Result A F} (h : A → B) → NarrowLine f r s
     → NarrowLine f (after r h) (after s h)
 unfolding after
 after-narrow h (NarrowLine.same e) = NarrowLine.same (ap (λ x. after x h) e)
 after-narrow h (NarrowLine.faulty e) = NarrowLine.faulty (ap (λ x. after x h) e)
 
 -- one check, or the other, of what is read
-passing-narrow : {A : Type 0} (r : Got Fault A) (old new : A → Finding)
+passing-narrow : {A : Type 0} (r : Found A) (old new : A → Finding)
     → ((x : A) → NarrowLine Fault.Unknowns (after (found (old x)) (λ u. x)) (after (found (new x)) (λ u. x)))
     → NarrowLine Fault.Unknowns (passing r (λ x. found (old x))) (passing r (λ x. found (new x)))
 unfolding passing
-passing-narrow (Got.got x) old new h = h x
-passing-narrow (Got.fault f) old new h = NarrowLine.same refl
+passing-narrow (Ok x) old new h = h x
+passing-narrow (Err f) old new h = NarrowLine.same refl
 
 -- ---- n
 
@@ -64,7 +64,7 @@ pub unknowns-narrow : (l : List ℕ) → NarrowLine Fault.Unknowns (old_unknowns
 unfolding old_unknowns_of unknowns_of
 unknowns-narrow l = passing-narrow (digit_is (body_of n_key l)) old_unknowns unknowns_check unknowns-of
 
-pub unknowns-refused : (n : ℕ) → n_old < n → n < 10 → old_unknowns_of (count_text n_key n) ≡ Got.fault Fault.Unknowns
+pub unknowns-refused : (n : ℕ) → n_old < n → n < 10 → old_unknowns_of (count_text n_key n) ≡ Err Fault.Unknowns
 unfolding old_unknowns_of passing after bad_unless one_to
 unknowns-refused n many one = rw (digit-back n one, le-leb 1 n (omega arith), lt-leb n n_old many)
 
@@ -97,7 +97,7 @@ low_narrow l =
     passing-narrow (list_line Fault.Spelling lo_key n_max l) old_counted (λ x. counted_check x.count x.row) count_of
 
 pub low-refused : (n : ℕ) (lo : List ℤ) → n_old < n → Small (placed n n lo)
-    → old_low_of (row_text lo_key n lo) ≡ Got.fault Fault.Unknowns
+    → old_low_of (row_text lo_key n lo) ≡ Err Fault.Unknowns
 unfolding old_low_of passing after bad_unless first_of
 low-refused n lo many small =
     let back = list-line-back Fault.Spelling lo_key n_max n lo (omega arith) small (omega arith) in
@@ -106,18 +106,18 @@ low-refused n lo many small =
 -- ---- n of 5 and 6
 
 module _ (n : ℕ) (many : n_old < n) (few : n ≤ n_max) where
-  pub n-had : old_unknowns_of (count_text n_key n) ≡ Got.fault Fault.Unknowns
+  pub n-had : old_unknowns_of (count_text n_key n) ≡ Err Fault.Unknowns
   n-had = unknowns-refused n many (omega arith)
 
-  pub n-taken : unknowns_of (count_text n_key n) ≡ Got.got n
+  pub n-taken : unknowns_of (count_text n_key n) ≡ Ok n
   unfolding unknowns_check bad_unless after
   n-taken = unknowns-back n (omega arith) ∙ rw (to_one n_max n (omega arith) few)
 
-  pub count-had : old_count n ≡ Finding.Bad Fault.Unknowns
+  pub count-had : old_count n ≡ Err Fault.Unknowns
   unfolding first_of bad_unless
   count-had = rw (le-leb 1 n (omega arith), lt-leb n n_old many)
 
-  pub count-taken : count_check n ≡ Finding.Fine
+  pub count-taken : count_check n ≡ Ok tt
   unfolding count_check first_of bad_unless
   count-taken = rw (le-leb 1 n (omega arith), le-leb n n_max few)
 
@@ -141,8 +141,8 @@ module _ {X R : Type 0} (old new : List ℕ → Answer Fault X) {line : ℕ}
 
     module _ (status : R → Status) (is : (a : Answer Fault X) → status (by a) ≡ status_of a) where
       pub same_otherwise : (t : List ℕ)
-          → ((n : ℕ) → status (by (old t)) ≡ Status.Refused Fault.LongText n → ⊥)
-          → ((n : ℕ) → status (by (old t)) ≡ Status.Refused Fault.Unknowns n → ⊥) → by (new t) ≡ by (old t)
+          → ((n : ℕ) → status (by (old t)) ≡ refused Fault.LongText n → ⊥)
+          → ((n : ℕ) → status (by (old t)) ≡ refused Fault.Unknowns n → ⊥) → by (new t) ≡ by (old t)
       same_otherwise t long many = go (near t)
         where
           go : NarrowAnswer Fault.Unknowns line Fault.LongText (old t) (new t) → by (new t) ≡ by (old t)
@@ -150,9 +150,9 @@ module _ {X R : Type 0} (old new : List ℕ → Answer Fault X) {line : ℕ}
           go (NarrowAnswer.faulty e) = absurd (many line (is (old t) ∙ ap status_of e))
           go (NarrowAnswer.too_long e) = absurd (long 0 (is (old t) ∙ ap status_of e))
 
-      pub done-too : (t : List ℕ) → status (by (old t)) ≡ Status.Done → by (new t) ≡ by (old t)
+      pub done-too : (t : List ℕ) → status (by (old t)) ≡ Ok tt → by (new t) ≡ by (old t)
       done-too t done =
           same_otherwise t (λ n p. done_refused (sym done ∙ p)) (λ n p. done_refused (sym done ∙ p))
         where
-          done_refused : {f : Fault} {n : ℕ} → Status.Done ≡ Status.Refused f n → ⊥
+          done_refused : {f : Fault} {n : ℕ} → Ok tt ≡ refused f n → ⊥
           done_refused e = let z : ◌≡◌ {A = ℕ} 0 1 = cc in absurd (omega arith)

@@ -13,13 +13,11 @@ use Rattle.sizes.specs.Bounds.{value_max, slope_max, b_max, z_max}
 use Rattle.sizes.proofs.Sums as sums
 use Rattle.text.specs.Words.{n_key}
 use Rattle.faults.specs.declared.Fault.{Fault}
-use Rattle.faults.specs.declared.Finding.{Finding}
-use Rattle.faults.specs.declared.Status.{Status}
+use Rattle.faults.specs.Checked.{refused, status_of}
 use Rattle.jobs.specs.declared.Term.{Term}
 use Rattle.jobs.specs.declared.Job.{Job}
 use Rattle.jobs.specs.declared.Result.{Result}
 use Rattle.checks.specs.CheckResult.{count_check}
-use Rattle.reading.specs.Got.{Got}
 use Rattle.term_write.specs.ShowTerms.{show_exponents}
 use Rattle.term_write.proofs.Terms.{exponents-long}
 use Rattle.lines.specs.Lines.{unknowns_of}
@@ -32,6 +30,7 @@ use Rattle.old_texts.specs.Old.{old_unknowns_of, old_read_job, old_count, old_re
 use Rattle.old_texts.proofs.Lines as lines
 use Rattle.old_texts.proofs.Jobs as jobs
 use Rattle.old_texts.proofs.Results as results
+use Rattle.std.specs.Prelude.{Ok, Err}
 
 -- "Raise n to 6 and the text to 4,096 bytes, for jobs and results."
 pub raised : (n_max ≡ 6) × (text_max ≡ 4096)
@@ -54,12 +53,12 @@ e-fits = sums.e-room
 
 -- "Stored texts of n up to 4 read as before and are written byte for byte the same,": what the old program reads is
 -- read with the same values, and these are written as they stood;
-pub job-as-before : (t : List ℕ) (j : Job) → old_read_job t ≡ record { status = Status.Done; job = j }
-    → (read_job t ≡ record { status = Status.Done; job = j }) × (job_bytes j ≡ t)
+pub job-as-before : (t : List ℕ) (j : Job) → old_read_job t ≡ Ok j
+    → (read_job t ≡ Ok j) × (job_bytes j ≡ t)
 job-as-before = jobs.as_before
 
-pub result-as-before : (t : List ℕ) (r : Result) → old_read_result t ≡ record { status = Status.Done; result = r }
-    → (read_result t ≡ record { status = Status.Done; result = r }) × (show_result r ≡ t)
+pub result-as-before : (t : List ℕ) (r : Result) → old_read_result t ≡ Ok r
+    → (read_result t ≡ Ok r) × (show_result r ≡ t)
 result-as-before = results.as_before
 
 -- "with four-digit exponents for four unknowns."
@@ -68,46 +67,46 @@ digits-of-four = exponents-long 4
 
 -- "The old program answers 3 or 1 for new texts": a right text of 5 or 6 unknowns has 3 from it, on the line of n, or
 -- of the list whose length is n,
-pub new-job : (t : List ℕ) → (read_job t).status ≡ Status.Done → 4 < (read_job t).job.head.n
-    → old_read_job t ≡ refused_with (Status.Refused Fault.Unknowns 3)
+pub new-job : (t : List ℕ) → status_of (read_job t) ≡ Ok tt → 4 < (job_in (read_job t)).head.n
+    → old_read_job t ≡ refused Fault.Unknowns 3
 new-job = jobs.right_new
 
-pub new-result : (t : List ℕ) → (read_result t).status ≡ Status.Done → 4 < (read_result t).result.n
-    → old_read_result t ≡ result_refused (Status.Refused Fault.Unknowns 5)
+pub new-result : (t : List ℕ) → status_of (read_result t) ≡ Ok tt → 4 < (result_in (read_result t)).n
+    → old_read_result t ≡ refused Fault.Unknowns 5
 new-result = results.right_new
 
 -- "and never a wrong job.": of every text it says the same, or 3 on that line, or 1;
 pub never-wrong-job : (t : List ℕ)
     → (old_read_job t ≡ read_job t)
-    ⊎ ((old_read_job t ≡ refused_with (Status.Refused Fault.Unknowns 3))
-    ⊎ (old_read_job t ≡ refused_with (Status.Refused Fault.LongText 0)))
+    ⊎ ((old_read_job t ≡ refused Fault.Unknowns 3)
+    ⊎ (old_read_job t ≡ refused Fault.LongText 0))
 never-wrong-job = jobs.same_or
 
 pub never-wrong-result : (t : List ℕ)
     → (old_read_result t ≡ read_result t)
-    ⊎ ((old_read_result t ≡ result_refused (Status.Refused Fault.Unknowns 5))
-    ⊎ (old_read_result t ≡ result_refused (Status.Refused Fault.LongText 0)))
+    ⊎ ((old_read_result t ≡ refused Fault.Unknowns 5)
+    ⊎ (old_read_result t ≡ refused Fault.LongText 0))
 never-wrong-result = results.same_or
 
 -- and where it answers neither 1 nor 3, status, line and values are the same
-pub job-otherwise : (t : List ℕ) → ((n : ℕ) → (old_read_job t).status ≡ Status.Refused Fault.LongText n → ⊥)
-    → ((n : ℕ) → (old_read_job t).status ≡ Status.Refused Fault.Unknowns n → ⊥) → read_job t ≡ old_read_job t
+pub job-otherwise : (t : List ℕ) → ((n : ℕ) → status_of (old_read_job t) ≡ refused Fault.LongText n → ⊥)
+    → ((n : ℕ) → status_of (old_read_job t) ≡ refused Fault.Unknowns n → ⊥) → read_job t ≡ old_read_job t
 job-otherwise = jobs.same_otherwise
 
-pub result-otherwise : (t : List ℕ) → ((n : ℕ) → (old_read_result t).status ≡ Status.Refused Fault.LongText n → ⊥)
-    → ((n : ℕ) → (old_read_result t).status ≡ Status.Refused Fault.Unknowns n → ⊥) → read_result t ≡ old_read_result t
+pub result-otherwise : (t : List ℕ) → ((n : ℕ) → status_of (old_read_result t) ≡ refused Fault.LongText n → ⊥)
+    → ((n : ℕ) → status_of (old_read_result t) ≡ refused Fault.Unknowns n → ⊥) → read_result t ≡ old_read_result t
 result-otherwise = results.same_otherwise
 
 -- "Texts of 2,049 to 4,096 bytes, and n of 5 and 6, lose faults 1 and 3;": a line of n, and a list of n numbers, had 3
 -- and is taken
-pub n-had : (n : ℕ) → 4 < n → n ≤ 6 → old_unknowns_of (count_text n_key n) ≡ Got.fault Fault.Unknowns
+pub n-had : (n : ℕ) → 4 < n → n ≤ 6 → old_unknowns_of (count_text n_key n) ≡ Err Fault.Unknowns
 n-had = lines.n-had
 
-pub n-taken : (n : ℕ) → 4 < n → n ≤ 6 → unknowns_of (count_text n_key n) ≡ Got.got n
+pub n-taken : (n : ℕ) → 4 < n → n ≤ 6 → unknowns_of (count_text n_key n) ≡ Ok n
 n-taken = lines.n-taken
 
-pub count-had : (n : ℕ) → 4 < n → n ≤ 6 → old_count n ≡ Finding.Bad Fault.Unknowns
+pub count-had : (n : ℕ) → 4 < n → n ≤ 6 → old_count n ≡ Err Fault.Unknowns
 count-had = lines.count-had
 
-pub count-taken : (n : ℕ) → 4 < n → n ≤ 6 → count_check n ≡ Finding.Fine
+pub count-taken : (n : ℕ) → 4 < n → n ≤ 6 → count_check n ≡ Ok tt
 count-taken = lines.count-taken

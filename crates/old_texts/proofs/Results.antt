@@ -6,12 +6,12 @@ use mathlib.Core.List.{List, foldl}
 use mathlib.Core.Logic.{◌⊎◌, inl, inr}
 use lib.ListN.{drop}
 use Rattle.faults.specs.declared.Fault.{Fault}
-use Rattle.faults.specs.declared.Status.{Status}
+use Rattle.faults.specs.Checked.{Checked, refused, status_of}
 use Rattle.jobs.specs.declared.Result.{Result}
 use Rattle.jobs.specs.declared.ResultLine.{ResultLine}
 use Rattle.jobs.specs.Lines.{result_number}
 use Rattle.checks.specs.CheckResult.{result_check, check_result}
-use Rattle.reading.specs.Got.{after}
+use Rattle.reading.specs.Results.{after}
 use Rattle.reading.specs.Lines.{State, Answer, heard, step, begin, read}
 use Rattle.reading.specs.Shows.{shown, Passed}
 use Rattle.reading.specs.Narrower.{NarrowLine, Narrower, NarrowAnswer}
@@ -20,7 +20,6 @@ use Rattle.reading.proofs.Walk.{all_above, line_read}
 use Rattle.reading.proofs.Narrower.{narrow-read, lines-bad}
 use Rattle.lines.proofs.Found.{found-fine}
 use Rattle.lines.proofs.Checks.{counted-fine}
-use Rattle.result_form.specs.declared.ResultRead.{ResultRead}
 use Rattle.result_form.specs.ResultForm.{result_says, result_form_of, result_answer, read_result}
 use Rattle.result_form.specs.ResultShows.{line, kinds, upto, result_shows, show_result}
 use Rattle.result_form.proofs.Back.{law, plain}
@@ -29,6 +28,7 @@ use Rattle.result_form.proofs.Answers.{answer-status, read-checked, read_same, e
 use Rattle.old_texts.specs.Old.{n_old, text_old, old_result_says, old_result_form, old_read_result, result_refused}
 use Rattle.old_texts.proofs.Lines.{after-narrow, low_narrow, low-refused}
 use Rattle.old_texts.proofs.Lines as lines
+use Rattle.std.specs.Prelude.{Ok}
 
 narrower : Narrower result_form_of old_result_says text_old Fault.Unknowns 5
 unfolding old_result_says
@@ -52,28 +52,28 @@ old-answer = narrow-read result_form_of old_result_says text_old Fault.Unknowns 
 -- the same answer, or 3 on line 5, or 1
 pub same_or : (t : List ℕ)
     → (old_read_result t ≡ read_result t)
-    ⊎ ((old_read_result t ≡ result_refused (Status.Refused Fault.Unknowns 5))
-    ⊎ (old_read_result t ≡ result_refused (Status.Refused Fault.LongText 0)))
+    ⊎ ((old_read_result t ≡ refused Fault.Unknowns 5)
+    ⊎ (old_read_result t ≡ refused Fault.LongText 0))
 unfolding read_result old_read_result
 same_or = lines.same_or (read old_result_form) (read result_form_of) old-answer result_answer
 
 -- where it answers neither 1 nor 3
-pub same_otherwise : (t : List ℕ) → ((n : ℕ) → (old_read_result t).status ≡ Status.Refused Fault.LongText n → ⊥)
-    → ((n : ℕ) → (old_read_result t).status ≡ Status.Refused Fault.Unknowns n → ⊥) → read_result t ≡ old_read_result t
+pub same_otherwise : (t : List ℕ) → ((n : ℕ) → status_of (old_read_result t) ≡ refused Fault.LongText n → ⊥)
+    → ((n : ℕ) → status_of (old_read_result t) ≡ refused Fault.Unknowns n → ⊥) → read_result t ≡ old_read_result t
 unfolding read_result old_read_result
 same_otherwise =
     lines.same_otherwise (read old_result_form) (read result_form_of) old-answer result_answer (λ x. x.status)
     answer-status
 
-done-too : (t : List ℕ) → (old_read_result t).status ≡ Status.Done → read_result t ≡ old_read_result t
+done-too : (t : List ℕ) → status_of (old_read_result t) ≡ Ok tt → read_result t ≡ old_read_result t
 unfolding read_result old_read_result
 done-too = lines.done-too (read old_result_form) (read result_form_of) old-answer result_answer (λ x. x.status)
     answer-status
 
-pub as_before : (t : List ℕ) (r : Result) → old_read_result t ≡ record { status = Status.Done; result = r }
-    → (read_result t ≡ record { status = Status.Done; result = r }) × (show_result r ≡ t)
+pub as_before : (t : List ℕ) (r : Result) → old_read_result t ≡ Ok r
+    → (read_result t ≡ Ok r) × (show_result r ≡ t)
 as_before t r e =
-    let now = done-too t (ap (λ (x : ResultRead). x.status) e) ∙ e in
+    let now = done-too t (ap (λ (x : Checked Result). x.status) e) ∙ e in
     (now, ((exactly t r).0 now).0)
 
 -- ---- a right text of more unknowns
@@ -113,7 +113,7 @@ module _ (r : Result) (passed : Passed result_shows kinds r) (many : n_old < r.n
       ∙ stays-bad old_result_form (drop 5 (shown result_shows r)) Fault.Unknowns 5
 
 -- no right text is too long for the old program
-old-refuses : (r : Result) → check_result r ≡ Status.Done → n_old < r.n
+old-refuses : (r : Result) → check_result r ≡ Ok tt → n_old < r.n
     → read old_result_form (show_result r) ≡ Answer.refused Fault.Unknowns 5
 unfolding result_check
 old-refuses r checked many =
@@ -122,9 +122,9 @@ old-refuses r checked many =
     lines-bad old_result_form (shown result_shows r) Fault.Unknowns 5 (all_above result_shows r (plain r) kinds)
     (omega (arith, result-width r, few)) (lines-refused r passed many)
 
-pub right_new : (t : List ℕ) → (read_result t).status ≡ Status.Done → n_old < (read_result t).result.n
-    → old_read_result t ≡ result_refused (Status.Refused Fault.Unknowns 5)
+pub right_new : (t : List ℕ) → status_of (read_result t) ≡ Ok tt → n_old < (result_in (read_result t)).n
+    → old_read_result t ≡ refused Fault.Unknowns 5
 unfolding old_read_result
 right_new t e many =
     ap (λ (x : List ℕ). result_answer (read old_result_form x)) (sym (read_same t e))
-    ∙ ap result_answer (old-refuses (read_result t).result (read-checked t e) many)
+    ∙ ap result_answer (old-refuses (result_in (read_result t)) (read-checked t e) many)

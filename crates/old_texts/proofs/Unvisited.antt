@@ -13,12 +13,12 @@ use Rattle.text.specs.Keys.{starts_with, body_of}
 use Rattle.text.specs.Counts.{count_of}
 use Rattle.sizes.specs.Sizes.{text_max}
 use Rattle.faults.specs.declared.Fault.{Fault}
-use Rattle.faults.specs.declared.Status.{Status}
+use Rattle.faults.specs.Checked.{Found, refused}
 use Rattle.jobs.specs.Zero.{no_result}
 use Rattle.jobs.specs.declared.Result.{Result}
 use Rattle.jobs.specs.declared.ResultLine.{ResultLine}
 use Rattle.jobs.specs.declared.Verdict.{Verdict}
-use Rattle.reading.specs.Got.{Got, after}
+use Rattle.reading.specs.Results.{after}
 use Rattle.reading.specs.Lines.{State, Answer, heard, step, begin, ended, read}
 use Rattle.reading.specs.NumberLines.{counted, count_line}
 use Rattle.reading.proofs.Decided.{stays-bad}
@@ -31,6 +31,7 @@ use Rattle.result_form.specs.ResultForm.{with_number, with_verdict, leaves, resu
 use Rattle.result_form.specs.ResultForm.{read_result}
 use Rattle.old_texts.specs.Old.{result_refused}
 use Rattle.old_texts.specs.Unvisited.{unvisited_says, unvisited_form}
+use Rattle.std.specs.Prelude.{Ok, Err}
 
 zero_one : ◌≡◌ {A = ℕ} 0 1 → ⊥
 zero_one e = omega arith
@@ -43,7 +44,7 @@ word-no-visit Verdict.Unique = refl
 word-no-visit Verdict.Stalled = refl
 word-no-visit Verdict.Spent = refl
 
-verdict-no-visit : (l : List ℕ) (v : Verdict) → verdict_of l ≡ Got.got v → visit_of l ≡ misspelled
+verdict-no-visit : (l : List ℕ) (v : Verdict) → verdict_of l ≡ Ok v → visit_of l ≡ misspelled
 verdict-no-visit l v e = ap visit_of (sym ((verdict-told l).told v e)) ∙ word-no-visit v
 
 -- ---- what was read without fault has a right number on its line 1 and a verdict on its line 2
@@ -78,11 +79,11 @@ module _ (held : ℕ) (r : Result) where
   unfolding step heard unvisited_says result_says after
   second v l ls = go (verdict_of l) refl
     where
-      go : (g : Got Fault Verdict) → verdict_of l ≡ g
+      go : (g : Found Verdict) → verdict_of l ≡ g
           → WereRead (heard 2 (after g (λ w. leaves ResultLine.Steps (with_verdict v w)))) ls
           → Refused (State.at ResultLine.Visit v) (l ∷ ls)
-      go (Got.fault f) q e = absurd (not-bad ls f 2 e)
-      go (Got.got w) q e =
+      go (Err f) q e = absurd (not-bad ls f 2 e)
+      go (Ok w) q e =
           ap (λ (s : Stands). foldl (step result_form_of) s ls) (visit-bad v l (verdict-no-visit l w q))
           ∙ stays-bad result_form_of ls Fault.Spelling 2
 
@@ -91,16 +92,16 @@ module _ (held : ℕ) (r : Result) where
   lines-refused [] e = absurd (refused-done (rw (and-false (eqb held 0)) at e))
   lines-refused (l ∷ ls) e = go (number_of l) ls e
     where
-      go : (g : Got Fault ℕ) (ls : List (List ℕ))
+      go : (g : Found ℕ) (ls : List (List ℕ))
           → WereRead (heard 1 (after g (λ m. leaves ResultLine.Verdict (with_number no_result m)))) ls
           → Refused (heard 1 (after g (λ m. leaves ResultLine.Visit (with_number no_result m)))) ls
-      go (Got.fault f) ls e = absurd (not-bad ls f 1 e)
-      go (Got.got m) [] e = absurd (refused-done (rw (and-false (eqb held 0)) at e))
-      go (Got.got m) (k ∷ ls) e = second (with_number no_result m) k ls e
+      go (Err f) ls e = absurd (not-bad ls f 1 e)
+      go (Ok m) [] e = absurd (refused-done (rw (and-false (eqb held 0)) at e))
+      go (Ok m) (k ∷ ls) e = second (with_number no_result m) k ls e
 
 -- what the program of before took is refused by 2 on line 2
 pub refused-now : (t : List ℕ) (r : Result) → read unvisited_form t ≡ Answer.done r
-    → read_result t ≡ result_refused (Status.Refused Fault.Spelling 2)
+    → read_result t ≡ refused Fault.Spelling 2
 unfolding read_result ended
 refused-now t r e =
     either text_max (length t) (λ long. absurd (refused-done (sym (read-long unvisited_form t long) ∙ e))) (λ few.

@@ -6,12 +6,11 @@ use Rattle.sizes.specs.Sizes.{n_max}
 use Rattle.text.specs.Keys.{body_of}
 use Rattle.text.specs.Words.{n_key, lo_key}
 use Rattle.faults.specs.declared.Fault.{Fault}
-use Rattle.faults.specs.declared.Finding.{Finding}
-use Rattle.faults.specs.declared.Status.{Status}
+use Rattle.faults.specs.Checked.{Finding, Status, Found, Checked}
 use Rattle.faults.specs.Checks.{bad_unless, first_of}
 use Rattle.term_checks.specs.Ranges.{one_to}
 use Rattle.checks.specs.Checks.{low_check}
-use Rattle.reading.specs.Got.{Got, after, passing}
+use Rattle.reading.specs.Results.{after, passing}
 use Rattle.reading.specs.Lines.{Next, Form, read}
 use Rattle.reading.specs.NumberLines.{Listed, list_line}
 use Rattle.reading.specs.Narrower.{limited}
@@ -24,9 +23,7 @@ use Rattle.jobs.specs.Lines.{after_n}
 use Rattle.jobs.specs.Parts.{with_unknowns}
 use Rattle.lines.specs.Found.{found}
 use Rattle.lines.specs.Lines.{digit_is}
-use Rattle.job_form.specs.declared.JobRead.{JobRead}
 use Rattle.job_form.specs.JobForm.{job_says, job_form_of, job_answer}
-use Rattle.result_form.specs.declared.ResultRead.{ResultRead}
 use Rattle.result_form.specs.ResultForm.{with_low, leaves, result_says, result_form_of, result_answer}
 
 -- "n: 1 to 4"
@@ -43,10 +40,10 @@ text_old = 2048
 abbrev pub old_unknowns : ℕ → Finding
 old_unknowns n = bad_unless (one_to n_old n) Fault.Unknowns
 
-unfoldable pub old_unknowns_of : List ℕ → Got Fault ℕ
+unfoldable pub old_unknowns_of : List ℕ → Found ℕ
 old_unknowns_of l = passing (digit_is (body_of n_key l)) (λ n. found (old_unknowns n))
 
-unfoldable pub old_job_says : JobLine → Job → List ℕ → Got Fault (Next JobLine Job)
+unfoldable pub old_job_says : JobLine → Job → List ℕ → Found (Next JobLine Job)
 old_job_says JobLine.Number j l = job_says JobLine.Number j l
 old_job_says JobLine.Kind j l = job_says JobLine.Kind j l
 old_job_says JobLine.Unknowns j l =
@@ -62,7 +59,7 @@ old_job_says JobLine.End j l = job_says JobLine.End j l
 abbrev pub old_job_form : Form Fault JobLine Job
 old_job_form = limited job_form_of old_job_says text_old
 
-unfoldable pub old_read_job : List ℕ → JobRead
+unfoldable pub old_read_job : List ℕ → (Checked Job)
 old_read_job t = job_answer (read old_job_form t)
 
 -- ---- a result
@@ -75,10 +72,10 @@ abbrev pub old_counted : Listed → Finding
 old_counted x = first_of (old_count x.count) (low_check x.count x.row)
 
 -- lo=: "the length of the `lo` list is n"
-unfoldable pub old_low_of : List ℕ → Got Fault Listed
+unfoldable pub old_low_of : List ℕ → Found Listed
 old_low_of l = passing (list_line Fault.Spelling lo_key n_max l) (λ x. found (old_counted x))
 
-unfoldable pub old_result_says : ResultLine → Result → List ℕ → Got Fault (Next ResultLine Result)
+unfoldable pub old_result_says : ResultLine → Result → List ℕ → Found (Next ResultLine Result)
 old_result_says ResultLine.Number v l = result_says ResultLine.Number v l
 old_result_says ResultLine.Visit v l = result_says ResultLine.Visit v l
 old_result_says ResultLine.Verdict v l = result_says ResultLine.Verdict v l
@@ -90,9 +87,9 @@ old_result_says ResultLine.End v l = result_says ResultLine.End v l
 abbrev pub old_result_form : Form Fault ResultLine Result
 old_result_form = limited result_form_of old_result_says text_old
 
-unfoldable pub old_read_result : List ℕ → ResultRead
+unfoldable pub old_read_result : List ℕ → (Checked Result)
 old_read_result t = result_answer (read old_result_form t)
 
 -- "everything is zero beside a fault"
-abbrev pub result_refused : Status → ResultRead
+abbrev pub result_refused : Status → (Checked Result)
 result_refused st = record { status = st; result = no_result }

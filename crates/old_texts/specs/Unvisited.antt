@@ -6,13 +6,14 @@ use Rattle.faults.specs.declared.Fault.{Fault}
 use Rattle.jobs.specs.Zero.{no_result}
 use Rattle.jobs.specs.declared.Result.{Result}
 use Rattle.jobs.specs.declared.ResultLine.{ResultLine}
-use Rattle.reading.specs.Got.{Got, after}
+use Rattle.reading.specs.Results.{after}
 use Rattle.reading.specs.Lines.{Next, Form}
 use Rattle.lines.specs.Lines.{number_of, misspelled}
 use Rattle.result_form.specs.ResultForm.{with_number, leaves, result_says, result_end}
+use Rattle.faults.specs.Checked.{Found}
 
 -- the verdict stands after the number, and no line is a visit's
-unfoldable pub unvisited_says : ResultLine → Result → List ℕ → Got Fault (Next ResultLine Result)
+unfoldable pub unvisited_says : ResultLine → Result → List ℕ → Found (Next ResultLine Result)
 unvisited_says ResultLine.Number v l = after (number_of l) (λ m. leaves ResultLine.Verdict (with_number v m))
 unvisited_says ResultLine.Visit v l = misspelled
 unvisited_says ResultLine.Verdict v l = result_says ResultLine.Verdict v l

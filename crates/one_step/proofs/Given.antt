@@ -17,15 +17,15 @@ use Rattle.checks.proofs.AcceptedLaws.{check_done}
 use Rattle.step.specs.Values.{side_of, box_of}
 use Rattle.step.proofs.Given.{box-at, box_in_lem}
 use Rattle.faults.specs.declared.Fault.{Fault}
-use Rattle.faults.specs.declared.Finding.{Finding}
-use Rattle.faults.specs.declared.Status.{Status}
+use Rattle.faults.specs.Checked.{Status, status_of}
 use Rattle.jobs.specs.declared.Ends.{Ends}
 use Rattle.jobs.specs.declared.Job.{Job}
 use Rattle.one_step.specs.OneStep.{ends_check, box_check, image_status, image_by, gives_image}
 use Rattle.one_step.specs.OneStep.{decide_check, decide_status, moves_to, decided_by, gives_move}
+use Rattle.std.specs.Prelude.{Ok, Err}
 
 module _ (n B : ℕ) (e : Ends) where
-  pub ends-in : ends_check n (pos B) e ≡ Finding.Fine → (k : ℕ) → k < n → InI B (side_of e k)
+  pub ends-in : ends_check n (pos B) e ≡ Ok tt → (k : ℕ) → k < n → InI B (side_of e k)
   unfolding ends_check
   ends-in h k l = record {
     order = all-ordered e.lo e.hi n (unless-fine _ Fault.Crossed (fine-next _ _ (fine-next _ _ h))) k l;
@@ -33,7 +33,7 @@ module _ (n B : ℕ) (e : Ends) where
     high = all-within e.hi n B (unless-fine _ Fault.Beyond (fine-first _ _ (fine-next _ _ h))) k l;
   }
 
-  pub in-ends : ((k : ℕ) → k < n → InI B (side_of e k)) → ends_check n (pos B) e ≡ Finding.Fine
+  pub in-ends : ((k : ℕ) → k < n → InI B (side_of e k)) → ends_check n (pos B) e ≡ Ok tt
   unfolding ends_check
   in-ends h =
       both-fine (fine-unless Fault.Beyond (within_all e.lo n B (λ k l. (h k l).low)))
@@ -45,25 +45,25 @@ pub box-alike : (n : ℕ) (x : Ends) → box_check n x ≡ first_of (low_check n
 unfolding ends_check low_check high_check
 box-alike n x = refl
 
-pub image-status : (j : Job) (x : Ends) → (gives_image j x).status ≡ image_status j x
+pub image-status : (j : Job) (x : Ends) → status_of (gives_image j x) ≡ image_status j x
 unfolding gives_image
 image-status j x = by (image_status j x)
   where
     by : (st : Status) → (image_by st j x).status ≡ st
-    by Status.Done = refl
-    by (Status.Refused f line) = refl
+    by (Ok tt) = refl
+    by (Err r) = refl
 
-pub decide-status : (n : ℕ) (x k : Ends) → (gives_move n x k).status ≡ decide_status n x k
+pub decide-status : (n : ℕ) (x k : Ends) → status_of (gives_move n x k) ≡ decide_status n x k
 unfolding gives_move moves_to
 decide-status n x k = by (decide_status n x k)
   where
     by : (st : Status) → (decided_by st n x k).status ≡ st
-    by Status.Done = refl
-    by (Status.Refused f line) = refl
+    by (Ok tt) = refl
+    by (Err r) = refl
 
 -- a job and a box in which nothing was found
-module _ (j : Job) (x : Ends) (done : image_status j x ≡ Status.Done) where
-  pub job-checked : check_job j ≡ Status.Done
+module _ (j : Job) (x : Ends) (done : image_status j x ≡ Ok tt) where
+  pub job-checked : check_job j ≡ Ok tt
   unfolding image_status
   job-checked = done_first _ _ done
 
@@ -73,7 +73,7 @@ module _ (j : Job) (x : Ends) (done : image_status j x ≡ Status.Done) where
       (ends-in j.head.n end_max x (fine-line _ _ (done_next _ _ done)))
 
 -- a box and an image in which nothing was found: what is decided of them, and that their ends stand in order
-module _ (n : ℕ) (x k : Ends) (fine : decide_check n x k ≡ Finding.Fine) where
+module _ (n : ℕ) (x k : Ends) (fine : decide_check n x k ≡ Ok tt) where
   pub some : 1 ≤ n
   unfolding decide_check
   some = (unknowns-fine n (fine-first _ _ fine)).0
@@ -86,7 +86,7 @@ module _ (n : ℕ) (x k : Ends) (fine : decide_check n x k ≡ Finding.Fine) whe
   unfolding gives_move
   moves = rw (line-fine 0 fine)
 
-  ordered : (B : ℕ) (e : Ends) → ends_check n (pos B) e ≡ Finding.Fine → (i : ℕ) → i < n
+  ordered : (B : ℕ) (e : Ends) → ends_check n (pos B) e ≡ Ok tt → (i : ℕ) → i < n
       → (side_at (box_of n e) i).lo ≤ℤ (side_at (box_of n e) i).hi
   ordered B e h i l = rw (box-at n few e i l) (ends-in n B e h i l).order
 

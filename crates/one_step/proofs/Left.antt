@@ -14,14 +14,14 @@ use Rattle.step.specs.Values.{side_of, box_of}
 use Rattle.step.proofs.Decisions.{Decided, none, unique, stalled, next, decided}
 use Rattle.step.proofs.Given.{box-at, box_in_lem, ends_at}
 use Rattle.step.proofs.Keep.{next-in}
-use Rattle.faults.specs.declared.Finding.{Finding}
 use Rattle.intervals.specs.declared.Interval.{Interval}
 use Rattle.jobs.specs.declared.Ends.{Ends}
 use Rattle.step.specs.declared.Decision.{Decision}
 use Rattle.one_step.specs.OneStep.{decide_check, moves_to}
 use Rattle.one_step.proofs.Given.{ends-in, few}
+use Rattle.std.specs.Prelude.{Ok}
 
-module _ (n : ℕ) (x k : Ends) (fine : decide_check n x k ≡ Finding.Fine) where
+module _ (n : ℕ) (x k : Ends) (fine : decide_check n x k ≡ Ok tt) where
   abbrev X : List Interval
   X = box_of n x
 

@@ -23,8 +23,6 @@ use Rattle.step.proofs.Decisions.{Decided, none, unique, stalled, next, decided,
 use Rattle.step.proofs.Given.{ends_at, box-back, job-in}
 use Rattle.step.proofs.Imaged.{image-in}
 use Rattle.step.proofs.Keep.{next-in}
-use Rattle.faults.specs.declared.Finding.{Finding}
-use Rattle.faults.specs.declared.Status.{Status}
 use Rattle.intervals.specs.declared.Interval.{Interval}
 use Rattle.jobs.specs.declared.Ends.{Ends}
 use Rattle.jobs.specs.declared.Equation.{Equation}
@@ -33,8 +31,9 @@ use Rattle.step.specs.declared.Move.{Move}
 use Rattle.step.specs.declared.Decision.{Decision}
 use Rattle.one_step.specs.OneStep.{box_check, image_check, image_status, image_ends, decide_check, move_to, moves_to}
 use Rattle.one_step.proofs.Given.{in-ends, job-checked, box-checked}
+use Rattle.std.specs.Prelude.{Ok}
 
-module _ (j : Job) (x : Ends) (done : image_status j x ≡ Status.Done) where
+module _ (j : Job) (x : Ends) (done : image_status j x ≡ Ok tt) where
   accepted : Accepted j
   accepted = check_done j (job-checked j x done)
 
@@ -68,12 +67,12 @@ module _ (j : Job) (x : Ends) (done : image_status j x ≡ Status.Done) where
   image-order k l = rw (image-at k l) (image-in step_in k l).order
 
   -- every image is one that may be handed in
-  pub image-fine : image_check n (image_ends j x) ≡ Finding.Fine
+  pub image-fine : image_check n (image_ends j x) ≡ Ok tt
   unfolding image_ends
   image-fine = in-ends n image_max (ends_of n K) (λ k l.
       rw (ends_at n accepted.few K k l ∙ image-at k l) (in-more image-room (image-in step_in k l)))
 
-  pub image-taken : decide_check n x (image_ends j x) ≡ Finding.Fine
+  pub image-taken : decide_check n x (image_ends j x) ≡ Ok tt
   unfolding decide_check image_status
   image-taken =
       both-fine (check-clean j (job-checked j x done)).unknowns
@@ -105,7 +104,7 @@ module _ (j : Job) (x : Ends) (done : image_status j x ≡ Status.Done) where
       by (next e m) = rw e (back (λ i. cut_i (side_at X i) (side_at K i)) (cut_box n X K) (unfold cut_box in refl))
 
   -- and a box that goes on is right again
-  pub next-fine : (step_of n q C X).what ≡ Move.Next → box_check n (ends_of n (step_of n q C X).sides) ≡ Finding.Fine
+  pub next-fine : (step_of n q C X).what ≡ Move.Next → box_check n (ends_of n (step_of n q C X).sides) ≡ Ok tt
   next-fine w =
       let moves = sym (ap (λ (d : Decision). d.what) (step_is n q C X)) ∙ w in
       let box = next-in X K (box-checked j x done) image-order moves in

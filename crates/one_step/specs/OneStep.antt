@@ -1,6 +1,6 @@
 -- Document 02, P7: "Split the step: one operation gives K for a job and a box, the other takes X and K and gives the
 -- verdict or the next box." Places past n are not looked at, and come back zero.
-use Rattle.std.specs.Prelude.{ℕ, ℤ, pos}
+use Rattle.std.specs.Prelude.{ℕ, ℤ, pos, Ok, Err}
 use Rattle.sizes.specs.Sizes.{end_max, image_max}
 use Rattle.faults.specs.Checks.{bad_unless, first_of, on_line, and_then}
 use Rattle.term_checks.specs.Ranges.{all_within, all_ordered}
@@ -11,8 +11,7 @@ use Rattle.step.specs.Step.{image_box}
 use Rattle.step.specs.Decide.{decide_of}
 use Rattle.step.specs.Values.{box_of, ends_of, inverse_of}
 use Rattle.faults.specs.declared.Fault.{Fault}
-use Rattle.faults.specs.declared.Finding.{Finding}
-use Rattle.faults.specs.declared.Status.{Status}
+use Rattle.faults.specs.Checked.{Finding, Status}
 use Rattle.jobs.specs.declared.Ends.{Ends}
 use Rattle.jobs.specs.declared.Job.{Job}
 use Rattle.step.specs.declared.Move.{Move}
@@ -46,8 +45,8 @@ image_ends j x =
     ends_of j.head.n (image_box j.head.n (equation_of j) (inverse_of j) (box_of j.head.n x))
 
 abbrev pub image_by : Status → Job → Ends → Imaged
-image_by Status.Done j x = record { status = Status.Done; ends = image_ends j x }
-image_by (Status.Refused f line) j x = record { status = Status.Refused f line; ends = zero_ends }
+image_by (Ok tt) j x = record { status = Ok tt; ends = image_ends j x }
+image_by (Err r) j x = record { status = Err r; ends = zero_ends }
 
 unfoldable pub gives_image : Job → Ends → Imaged
 gives_image j x = image_by (image_status j x) j x
@@ -63,16 +62,16 @@ abbrev pub decide_status : ℕ → Ends → Ends → Status
 decide_status n x k = on_line (decide_check n x k) 0
 
 abbrev pub move_to : ℕ → Decision → Decided
-move_to n d = record { status = Status.Done; what = d.what; ends = ends_of n d.sides }
+move_to n d = record { status = Ok tt; what = d.what; ends = ends_of n d.sides }
 
 -- "K cut with X, the order of the three tests and the counts stay as they are."
 unfoldable pub moves_to : ℕ → Ends → Ends → Decided
 moves_to n x k = move_to n (decide_of n (box_of n x) (box_of n k))
 
 abbrev pub decided_by : Status → ℕ → Ends → Ends → Decided
-decided_by Status.Done n x k = moves_to n x k
-decided_by (Status.Refused f line) n x k =
-    record { status = Status.Refused f line; what = Move.None; ends = zero_ends }
+decided_by (Ok tt) n x k = moves_to n x k
+decided_by (Err r) n x k =
+    record { status = Err r; what = Move.None; ends = zero_ends }
 
 unfoldable pub gives_move : ℕ → Ends → Ends → Decided
 gives_move n x k = decided_by (decide_status n x k) n x k

@@ -6,7 +6,6 @@ ghost use Rattle.std.specs.Prelude.{◌≡◌, ◌≤◌};
 ghost use Rattle.sizes.specs.Sizes.{n_max};
 ghost use Rattle.intervals.specs.Places.{entry_at, side_at};
 ghost use Rattle.jobs.specs.Places.{equation_at};
-ghost use Rattle.faults.specs.declared.Status.{Status};
 ghost use Rattle.step.specs.Step.{image_box};
 ghost use Rattle.step.specs.Ranges.{StepIn};
 ghost use Rattle.one_step.specs.OneStep.{ends_check, image_status, image_ends, gives_image};
@@ -77,7 +76,7 @@ fn image_box(eqs: [Equation; N], c: [[i64; N]; N], x: [Interval; N], n: usize) -
 }
 
 fn image_ends(j: Job, e: Ends) -> Ends
-    requires { image_status j e ≡ Status.Done }
+    requires { image_status j e ≡ Ok tt }
     ensures { result ≡ image_ends j e }
 {
     let n = j.head.n;

@@ -6,8 +6,6 @@ use Prim.Native.Nat.{ℕ, zero, suc, ◌+◌}
 use Rattle.sizes.specs.Sizes.{end_max}
 use Rattle.intervals.specs.declared.Interval.{Interval}
 use Rattle.intervals.specs.Places.{side_at}
-use Rattle.faults.specs.declared.Finding.{Finding}
-use Rattle.faults.specs.declared.Status.{Status}
 use Rattle.faults.proofs.Laws.{line-fine, both-done}
 use Rattle.jobs.specs.declared.Ends.{Ends}
 use Rattle.jobs.specs.declared.Job.{Job}
@@ -32,28 +30,29 @@ use Rattle.run.specs.declared.Outcome.{Outcome}
 use Rattle.run.specs.Run.{settle, run_of}
 use Rattle.run.specs.Job.{outcome_of, result_of, run_job}
 use Rattle.promises.specs.ByTwo.{step_by_two, run_by_two}
+use Rattle.std.specs.Prelude.{Ok}
 
-module _ (j : Job) (checked : check_job j ≡ Status.Done) where
+module _ (j : Job) (checked : check_job j ≡ Ok tt) where
   abbrev step : Ends → Decision
   step x = step_of j.head.n (equation_of j) (inverse_of j) (box_of j.head.n x)
 
-  module _ (x : Ends) (right : box_check j.head.n x ≡ Finding.Fine) where
-    both_right : image_status j x ≡ Status.Done
+  module _ (x : Ends) (right : box_check j.head.n x ≡ Ok tt) where
+    both_right : image_status j x ≡ Ok tt
     unfolding image_status
     both_right = both-done checked (line-fine 0 right)
 
-    image-given : gives_image j x ≡ record { status = Status.Done; ends = image_ends j x }
+    image-given : gives_image j x ≡ record { status = Ok tt; ends = image_ends j x }
     unfolding gives_image
     image-given = rw both_right
 
     pub image-is : gives_image j x ≡ record {
-      status = Status.Done;
+      status = Ok tt;
       ends = ends_of j.head.n (image_box j.head.n (equation_of j) (inverse_of j) (box_of j.head.n x));
     }
     unfolding image_ends
     image-is = image-given
 
-    pub image-fine : image_check j.head.n (gives_image j x).ends ≡ Finding.Fine
+    pub image-fine : image_check j.head.n (gives_image j x).ends ≡ Ok tt
     image-fine = rw image-given (whole.image-fine j x both_right)
 
     pub box-right : BoxIn j.head.n (side_at (box_of j.head.n x))
@@ -67,7 +66,7 @@ module _ (j : Job) (checked : check_job j ≡ Status.Done) where
     left-given : box_of j.head.n (step_by_two j x).ends ≡ (step x).sides
     left-given = rw step_given (left_back j x both_right)
 
-    next-given : (step_by_two j x).what ≡ Move.Next → box_check j.head.n (step_by_two j x).ends ≡ Finding.Fine
+    next-given : (step_by_two j x).what ≡ Move.Next → box_check j.head.n (step_by_two j x).ends ≡ Ok tt
     next-given w = rw step_given (next-fine j x both_right (sym (ap (λ (d : Decided). d.what) step_given) ∙ w))
 
   -- what comes after a step counts where it goes on
@@ -78,7 +77,7 @@ module _ (j : Job) (checked : check_job j ≡ Status.Done) where
   settle-next Move.Stalled y t f g h = refl
   settle-next Move.Next y t f g h = h refl
 
-  pub run-given : (a done : ℕ) (x : Ends) → box_check j.head.n x ≡ Finding.Fine
+  pub run-given : (a done : ℕ) (x : Ends) → box_check j.head.n x ≡ Ok tt
       → run_of j.head.n (equation_of j) (inverse_of j) a done (box_of j.head.n x) ≡ run_by_two j a done x
   unfolding run_of run_by_two
   run-given zero done x right = refl
@@ -90,18 +89,18 @@ module _ (j : Job) (checked : check_job j ≡ Status.Done) where
       (run_of j.head.n (equation_of j) (inverse_of j) a (done + 1)) (λ _. run_by_two j a (done + 1) d.ends)
       (λ next. run-given a (done + 1) d.ends (next-given x right next)))
 
-  pub entry-given : run_job j ≡ record { status = Status.Done; result = result_of j (run_by_two j j.steps 0 j.ends) }
+  pub entry-given : run_job j ≡ Ok (result_of j (run_by_two j j.steps 0 j.ends))
   unfolding run_job outcome_of
   entry-given = rw (checked, ← run-given j.steps 0 j.ends own) refl
     where
-      own : box_check j.head.n j.ends ≡ Finding.Fine
+      own : box_check j.head.n j.ends ≡ Ok tt
       own =
           let a = check_done j checked in
           in-ends j.head.n end_max j.ends
           (λ k l. record { order = a.ordered k l; low = a.low k l; high = a.high k l })
 
 -- what any X and K that are taken decide
-module _ (n : ℕ) (x k : Ends) (taken : decide_check n x k ≡ Finding.Fine) where
+module _ (n : ℕ) (x k : Ends) (taken : decide_check n x k ≡ Ok tt) where
   what-is : (gives_move n x k).what ≡ (decide_of n (box_of n x) (box_of n k)).what
   unfolding moves_to
   what-is = ap (λ (d : Decided). d.what) (moves n x k taken)

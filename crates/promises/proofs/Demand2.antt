@@ -11,7 +11,7 @@ use Rattle.intervals.specs.declared.Interval.{Interval}
 use Rattle.jobs.specs.declared.Job.{Job}
 use Rattle.jobs.specs.declared.Result.{Result}
 use Rattle.faults.specs.declared.Fault.{Fault}
-use Rattle.faults.specs.declared.Status.{Status}
+use Rattle.faults.specs.Checked.{refused, status_of}
 use Rattle.jobs.specs.declared.Verdict.{Verdict}
 use Rattle.jobs.specs.Zero.{no_job, no_result}
 use Rattle.checks.specs.Checks.{check_job}
@@ -42,8 +42,9 @@ use Rattle.result_form.proofs.Trips as result-trips
 use Rattle.result_form.proofs.Answers as result-text
 use Rattle.promises.proofs.Verdicts as verdicts
 use Rattle.promises.proofs.Demand3 as demand3
+use Rattle.std.specs.Prelude.{Ok}
 
-module _ (j : Job) (checked : check_job j ≡ Status.Done) where
+module _ (j : Job) (checked : check_job j ≡ Ok tt) where
   accepted : Accepted j
   accepted = check_done j checked
 
@@ -69,7 +70,7 @@ module _ (j : Job) (checked : check_job j ≡ Status.Done) where
 
   -- box, verdict and step count are the definitions': the public entry answers the job's run with its own allowance
   -- (`entry` of Demand3: with any)
-  pub answers : run_job j ≡ record { status = Status.Done; result = result_of j (job_run j j.steps) }
+  pub answers : run_job j ≡ Ok (result_of j (job_run j j.steps))
   answers = demand3.entry j checked j.steps accepted.steps
 
   -- ""none" comes exactly on an empty intersection,": of every box that a step begins on,
@@ -115,52 +116,52 @@ module _ (j : Job) (checked : check_job j ≡ Status.Done) where
   spent-answer = verdicts.spent-begins s
 
   -- "Values to text to values gives the same values in the live places", of a job
-  pub job-values-back : read_job (job_bytes j) ≡ record { status = Status.Done; job = job-live.live j }
+  pub job-values-back : read_job (job_bytes j) ≡ Ok (job-live.live j)
   job-values-back = job-trips.read-write j checked
 
 -- and of a result
-pub result-values-back : (r : Result) → check_result r ≡ Status.Done
-    → read_result (show_result r) ≡ record { status = Status.Done; result = result.live r }
+pub result-values-back : (r : Result) → check_result r ≡ Ok tt
+    → read_result (show_result r) ≡ Ok (result.live r)
 result-values-back = result-trips.read-write
 
 -- "Text to values to text gives the same bytes."
-pub job-text-back : (t : List ℕ) (j : Job) → read_job t ≡ record { status = Status.Done; job = j } → job_bytes j ≡ t
+pub job-text-back : (t : List ℕ) (j : Job) → read_job t ≡ Ok j → job_bytes j ≡ t
 job-text-back t j e = ((job-text.exactly t j).0 e).0
 
-pub result-text-back : (t : List ℕ) (r : Result) → read_result t ≡ record { status = Status.Done; result = r }
+pub result-text-back : (t : List ℕ) (r : Result) → read_result t ≡ Ok r
     → show_result r ≡ t
 result-text-back t r e = ((result-text.exactly t r).0 e).0
 
 -- And no other text is read: one is read without a fault exactly when it is the bytes of values without a fault, with
 -- zeros in the dead places.
 pub job-text-exactly : (t : List ℕ) (j : Job)
-    → (read_job t ≡ record { status = Status.Done; job = j })
-    ↔ ((job_bytes j ≡ t) × (check_job j ≡ Status.Done) × (job-live.live j ≡ j))
+    → (read_job t ≡ Ok j)
+    ↔ ((job_bytes j ≡ t) × (check_job j ≡ Ok tt) × (job-live.live j ≡ j))
 job-text-exactly = job-text.exactly
 
 pub result-text-exactly : (t : List ℕ) (r : Result)
-    → (read_result t ≡ record { status = Status.Done; result = r })
-    ↔ ((show_result r ≡ t) × (check_result r ≡ Status.Done) × (result.live r ≡ r))
+    → (read_result t ≡ Ok r)
+    ↔ ((show_result r ≡ t) × (check_result r ≡ Ok tt) × (result.live r ≡ r))
 result-text-exactly = result-text.exactly
 
 -- "Values handed over without text get the same checks in the same line order": values that can be spelled have the
 -- fault of their text, under the same line
 pub job-same-order : (j : Job) → job.Spelled j → length (job_bytes j) ≤ text_max
-    → (read_job (job_bytes j)).status ≡ check_job j
+    → status_of (read_job (job_bytes j)) ≡ check_job j
 job-same-order = job-text.same-order
 
 pub result-same-order : (r : Result) → result.Spelled r → length (show_result r) ≤ text_max
-    → (read_result (show_result r)).status ≡ check_result r
+    → status_of (read_result (show_result r)) ≡ check_result r
 result-same-order = result-text.same-order
 
 -- "lines are taken in order and the first bad line decides": a text that is not too long has a fault exactly where
 -- lines that are read without one stand first and the next line is bad, whatever follows;
 pub job-first-bad : (t : List ℕ) (f : Fault) (n : ℕ) → length t ≤ text_max
-    → ((read_job t).status ≡ Status.Refused f n) ↔ Refused job_form_of t f n
+    → (status_of (read_job t) ≡ refused f n) ↔ Refused job_form_of t f n
 job-first-bad = job-text.first-bad
 
 pub result-first-bad : (t : List ℕ) (f : Fault) (n : ℕ) → length t ≤ text_max
-    → ((read_result t).status ≡ Status.Refused f n) ↔ Refused result_form_of t f n
+    → (status_of (read_result t) ≡ refused f n) ↔ Refused result_form_of t f n
 result-first-bad = result-text.first-bad
 
 -- "its number and a line counted from 1": the bad line is named by its place;
@@ -172,9 +173,9 @@ result-line-number = result-text.line-number
 
 -- and what a text's first bytes have decided stays so, whatever bytes come after them, with zeros beside the fault
 pub job-decided : (a b : List ℕ) (f : Fault) (n : ℕ) → Decides job_form_of a f n → length (a ++ b) ≤ text_max
-    → read_job (a ++ b) ≡ record { status = Status.Refused f n; job = no_job }
+    → read_job (a ++ b) ≡ refused f n
 job-decided = job-text.decided
 
 pub result-decided : (a b : List ℕ) (f : Fault) (n : ℕ) → Decides result_form_of a f n → length (a ++ b) ≤ text_max
-    → read_result (a ++ b) ≡ record { status = Status.Refused f n; result = no_result }
+    → read_result (a ++ b) ≡ refused f n
 result-decided = result-text.decided

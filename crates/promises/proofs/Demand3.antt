@@ -11,7 +11,6 @@ use Rattle.sizes.specs.Sizes.{steps_max}
 use Rattle.intervals.specs.declared.Interval.{Interval}
 use Rattle.jobs.specs.declared.Kind.{Kind}
 use Rattle.jobs.specs.declared.Job.{Job}
-use Rattle.faults.specs.declared.Status.{Status}
 use Rattle.jobs.specs.declared.Verdict.{Verdict}
 use Rattle.checks.specs.Checks.{check_job}
 use Rattle.checks.specs.Accepted.{Accepted}
@@ -28,8 +27,9 @@ use Rattle.promises.proofs.Jobs.{system_of, solves-zero}
 use Rattle.promises.proofs.Entry.{entry_runs}
 use Rattle.promises.proofs.Jobs as jobs
 use Rattle.promises.proofs.Promises as promises
+use Rattle.std.specs.Prelude.{Ok}
 
-module _ (j : Job) (checked : check_job j ≡ Status.Done) where
+module _ (j : Job) (checked : check_job j ≡ Ok tt) where
   accepted : Accepted j
   accepted = check_done j checked
 
@@ -39,7 +39,7 @@ module _ (j : Job) (checked : check_job j ≡ Status.Done) where
   -- The run that the promises are about is the public entry's: handed the job with an allowance that it accepts, it
   -- answers `job_run` with that allowance.
   pub entry : (a : ℕ)
-      → a ≤ steps_max → run_job (allow a j) ≡ record { status = Status.Done; result = result_of j (job_run j a) }
+      → a ≤ steps_max → run_job (allow a j) ≡ Ok (result_of j (job_run j a))
   entry = entry_runs j accepted
 
   -- "More steps never unsay an answer. Take one accepted job with two step allowances. The larger allowance's box lies

@@ -4,7 +4,6 @@ use Prim.Native.Nat.{ℕ, ◌≤◌}
 use Rattle.sizes.specs.Sizes.{steps_max}
 use Rattle.jobs.specs.declared.Kind.{Kind}
 use Rattle.jobs.specs.declared.Job.{Job}
-use Rattle.faults.specs.declared.Status.{Status}
 use Rattle.jobs.specs.declared.Equation.{Equation}
 use Rattle.checks.specs.Accepted.{GoodSystem, Accepted}
 use Rattle.checks.proofs.AcceptedLaws.{done-check}
@@ -13,6 +12,7 @@ use Rattle.step.specs.Values.{start_of, inverse_of}
 use Rattle.run.specs.Run.{run_of}
 use Rattle.run.specs.Job.{outcome_of, result_of, run_job}
 use Rattle.promises.specs.Jobs.{allow, job_run}
+use Rattle.std.specs.Prelude.{Ok}
 
 module _ (j : Job) (a : ℕ) where
   -- the allowance plays no part in the system
@@ -52,6 +52,6 @@ module _ (j : Job) (a : ℕ) where
   }
 
 pub entry_runs : (j : Job) → Accepted j → (a : ℕ)
-    → a ≤ steps_max → run_job (allow a j) ≡ record { status = Status.Done; result = result_of j (job_run j a) }
+    → a ≤ steps_max → run_job (allow a j) ≡ Ok (result_of j (job_run j a))
 unfolding run_job result_of
 entry_runs j h a l = rw (done-check (allow a j) (allow-accepted j a h l), allow-outcome j a)

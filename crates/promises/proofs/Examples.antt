@@ -32,11 +32,11 @@ use Rattle.run.specs.Run.{run_of}
 use Rattle.jobs.specs.declared.Kind.{Kind}
 use Rattle.jobs.specs.declared.Row.{Row}
 use Rattle.jobs.specs.declared.Job.{Job}
-use Rattle.faults.specs.declared.Status.{Status}
 use Rattle.jobs.specs.declared.Verdict.{Verdict}
 use Rattle.promises.specs.Claims.{Point, Lies, Same}
 use Rattle.promises.specs.Jobs.{job_run, SolvesLinear}
 use Rattle.promises.proofs.Demand3.{linear-zeros, at_most_one}
+use Rattle.std.specs.Prelude.{Ok}
 
 abbrev holding : List ℤ → Row
 holding numbers = record { at = numbers }
@@ -55,7 +55,7 @@ job11 = record {
   };
 }
 
-pub accepted : check_job job11 ≡ Status.Done
+pub accepted : check_job job11 ≡ Ok tt
 unfolding check_job head_lines body_lines number_check unknowns_check one_to pin_check low_check high_check
     inverse_check good_matrix steps_check system_lines lines_of system_check line_check job_line_status
     sided_check row_check bad_unless first_of on_line and_then all_within is_within all_ordered all_b

@@ -8,7 +8,6 @@ use lib.Dec.{eqb, leb, ltb}
 use lib.IntN.{pos, negsuc}
 use lib.ListN.{get_or}
 use borrow.Author.Tests.{eqb-true, eq-eqb, ne_eqb, le-leb, le-ltb, lt-ltb}
-use Rattle.digits.specs.declared.Number.{Number}
 use Rattle.digits.specs.Number.{read_number}
 use Rattle.digits.proofs.Cases.{either}
 use Rattle.text.specs.Keys.{starts_with, body_of}
@@ -17,9 +16,9 @@ use Rattle.text.specs.Counts.{in_count, count_of}
 use Rattle.text.proofs.Keys.{both}
 use Rattle.text.proofs.ListLines.{no-list}
 use Rattle.faults.specs.declared.Fault.{Fault}
-use Rattle.faults.specs.declared.Status.{Status}
+use Rattle.faults.specs.Checked.{Status}
 use Rattle.faults.specs.Checks.{bad_unless}
-use Rattle.reading.specs.Got.{Got, after, passing}
+use Rattle.reading.specs.Results.{after, passing}
 use Rattle.reading.specs.NumberLines.{counted, count_line, rowed, row_line}
 use Rattle.reading.specs.Lines.{bytes}
 use Rattle.reading.specs.Shows.{lines_of, shown}
@@ -45,11 +44,12 @@ use Rattle.job_form.specs.JobForm.{job_says}
 use Rattle.job_form.specs.JobBytes.{system_text, low_text, box_kinds, system_kinds, job_shows, job_bytes}
 use Rattle.job_form.proofs.Order.{Shape, shape}
 use Rattle.promises.specs.Pins.{pin_by}
+use Rattle.std.specs.Prelude.{Ok, Err, Some, None, Option}
 
 -- ---- a pin line
 
 written-by : (n p : ℕ) → p ≤ n
-    → after (found (written_pin n p)) (λ u. p) ≡ cond (leb 1 p && ltb p n) (Got.got p) (Got.fault Fault.Pin)
+    → after (found (written_pin n p)) (λ u. p) ≡ cond (leb 1 p && ltb p n) (Ok p) (Err Fault.Pin)
 unfolding written_pin one_to bad_unless after
 written-by n p h =
     either p n
@@ -57,12 +57,12 @@ written-by n p h =
     (λ l. rw (le-leb p n h, le-ltb p n l, eq-eqb p n (omega arith)) (none (leb 1 p)))
   where
     go : (b : Bool) → after (found (bad_unless ((b && true) && true) Fault.Pin)) (λ u. p)
-        ≡ cond (b && true) (Got.got p) (Got.fault Fault.Pin)
+        ≡ cond (b && true) (Ok p) (Err Fault.Pin)
     go true = refl
     go false = refl
 
     none : (b : Bool) → after (found (bad_unless ((b && true) && false) Fault.Pin)) (λ u. p)
-        ≡ cond (b && false) (Got.got p) (Got.fault Fault.Pin)
+        ≡ cond (b && false) (Ok p) (Err Fault.Pin)
     none true = refl
     none false = refl
 
@@ -70,16 +70,16 @@ pub pin-says : (n : ℕ) (l : List ℕ) → pin_of n l ≡ pin_by n (read_number
 unfolding pin_of count_line counted count_of in_count passing after
 pin-says n l = go (read_number (body_of pin_key l))
   where
-    go : (v : Number)
+    go : (v : Option ℤ)
         → passing (counted Fault.Spelling Fault.Pin (count_of n v)) (λ p. found (written_pin n p)) ≡ pin_by n v
-    go Number.Bad = refl
-    go (Number.Is (negsuc m)) = refl
-    go (Number.Is (pos p)) =
+    go None = refl
+    go (Some (negsuc m)) = refl
+    go (Some (pos p)) =
         either n p
         (λ l. rw (lt-ltb n p l, le-ltb p n (omega arith)) (none (leb 1 p)))
         (λ l. rw (le-ltb n p l) (written-by n p l))
       where
-        none : (b : Bool) → Got.fault Fault.Pin ≡ cond (b && false) (Got.got p) (Got.fault Fault.Pin)
+        none : (b : Bool) → Err Fault.Pin ≡ cond (b && false) (Ok p) (Err Fault.Pin)
         none true = refl
         none false = refl
 
@@ -94,12 +94,12 @@ other_key (b ∷ bs) e =
     let first : b ≡ 112 = eqb-true b 112 p.0 in
     rw first
 
-low-odd : (n : ℕ) (l : List ℕ) → starts_with pin_key l ≡ true → low_of n l ≡ Got.fault Fault.Spelling
+low-odd : (n : ℕ) (l : List ℕ) → starts_with pin_key l ≡ true → low_of n l ≡ Err Fault.Spelling
 unfolding low_of row_line rowed passing body_of
 low-odd n l e = rw (other_key l e, no-list)
 
 pub pin-elsewhere : (j : Job) (l : List ℕ) → after_n j.head.kind ≡ JobLine.Lo → starts_with pin_key l ≡ true
-    → job_says (after_n j.head.kind) j l ≡ Got.fault Fault.Spelling
+    → job_says (after_n j.head.kind) j l ≡ Err Fault.Spelling
 unfolding job_says after
 pin-elsewhere j l k e = rw (k, low-odd j.head.n l e)
 
@@ -135,9 +135,9 @@ module _ (j : Job) (p : ℕ) where
       ap (λ (s : Status). answer_by s (with_pin j p)) (check-ignores h) ∙ go (check_job j)
     where
       go : (s : Status) → answer_by s (with_pin j p) ≡ answer_by s j
-      go Status.Done =
-          ap (λ (o : Outcome). record { status = Status.Done; result = result_of j o }) (outcome-ignores h)
-      go (Status.Refused f line) = refl
+      go (Ok tt) =
+          ap (λ (o : Outcome). Ok (result_of j o)) (outcome-ignores h)
+      go (Err r) = refl
 
   text-ignores : (k : Kind) (i : ℕ) → system_text k (with_pin j p) i ≡ system_text k j i
   unfolding system_text

@@ -9,8 +9,7 @@ use lib.ListN.{get_or}
 use Rattle.sizes.specs.Sizes.{number_max}
 use Rattle.text.specs.Words.{visit_key}
 use Rattle.faults.specs.declared.Fault.{Fault}
-use Rattle.faults.specs.declared.Finding.{Finding}
-use Rattle.faults.specs.declared.Status.{Status}
+use Rattle.faults.specs.Checked.{refused}
 use Rattle.jobs.specs.declared.Job.{Job}
 use Rattle.jobs.specs.declared.Result.{Result}
 use Rattle.jobs.specs.declared.ResultLine.{ResultLine}
@@ -26,6 +25,7 @@ use Rattle.old_texts.specs.Old.{result_refused}
 use Rattle.old_texts.specs.Unvisited.{unvisited_form}
 use Rattle.old_texts.proofs.Unvisited as unvisited
 use Rattle.promises.proofs.Visits as visits
+use Rattle.std.specs.Prelude.{Ok}
 
 -- "The result record and text gain `visit=` as second line"
 pub second-line : (r : Result) → get_or (shown result_shows r) 1 [] ≡ count_text visit_key r.visit
@@ -35,18 +35,18 @@ pub second-number : result_number ResultLine.Visit ≡ 2
 second-number = refl
 
 -- "(0 for a job run alone,"
-pub alone : (j : Job) → (run_job j).result.visit ≡ 0
+pub alone : (j : Job) → (result_in (run_job j)).visit ≡ 0
 alone = visits.alone
 
 -- "at most 999,999,999, else 4);"
-pub visit-fine : (v : ℕ) → (visit_check v ≡ Finding.Fine) ↔ (v ≤ 999999999)
+pub visit-fine : (v : ℕ) → (visit_check v ≡ Ok tt) ↔ (v ≤ 999999999)
 visit-fine = visits.fine-exactly
 
 pub visit-beyond : (r : Result) → r.number ≤ number_max → 999999999 < r.visit
-    → check_result r ≡ Status.Refused Fault.Beyond 2
+    → check_result r ≡ refused Fault.Beyond 2
 visit-beyond = visits.beyond
 
 -- "old result texts are refused by 2, line 2."
 pub old-refused : (t : List ℕ) (r : Result) → read unvisited_form t ≡ Answer.done r
-    → read_result t ≡ result_refused (Status.Refused Fault.Spelling 2)
+    → read_result t ≡ refused Fault.Spelling 2
 old-refused = unvisited.refused-now

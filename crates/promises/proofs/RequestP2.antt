@@ -14,9 +14,7 @@ use Rattle.digits.specs.Number.{read_number}
 use Rattle.text.specs.Keys.{starts_with, body_of}
 use Rattle.text.specs.Words.{pin_key}
 use Rattle.faults.specs.declared.Fault.{Fault}
-use Rattle.faults.specs.declared.Finding.{Finding}
-use Rattle.faults.specs.declared.Status.{Status}
-use Rattle.reading.specs.Got.{Got}
+use Rattle.faults.specs.Checked.{status_of}
 use Rattle.reading.specs.Shows.{shown}
 use Rattle.jobs.specs.declared.Kind.{Kind}
 use Rattle.jobs.specs.declared.Head.{Head}
@@ -46,6 +44,7 @@ use Rattle.promises.specs.Jobs.{job_run, Eigenpair}
 use Rattle.promises.specs.Pins.{pin_by}
 use Rattle.promises.proofs.Pins as pins
 use Rattle.promises.proofs.Demand3 as demand3
+use Rattle.std.specs.Prelude.{Ok, Err}
 
 -- "Eigen jobs, and no others, get a line `pin=` after `n`": line 4, and what it says; elsewhere such a line is 2
 pub line-four : (h : Head) → job_number (after_n h.kind) h ≡ 4
@@ -56,7 +55,7 @@ pub pin-says : (n : ℕ) (l : List ℕ) → pin_of n l ≡ pin_by n (read_number
 pin-says = pins.pin-says
 
 pub no-others : (j : Job) (l : List ℕ) → after_n j.head.kind ≡ JobLine.Lo → starts_with pin_key l ≡ true
-    → job_says (after_n j.head.kind) j l ≡ Got.fault Fault.Spelling
+    → job_says (after_n j.head.kind) j l ≡ Err Fault.Spelling
 no-others = pins.pin-elsewhere
 
 -- the lines after it are one further on, and only then
@@ -75,7 +74,7 @@ pub others-unknown : (j : Job) (P : ℕ → ℤ) (d : ℤ) {k : ℕ} → (k ≡ 
 others-unknown j P d = formulas.coordinate-other P d
 
 -- and "at every fraction point the built equations equal these formulas exactly", whatever the pin
-pub equations-equal : (j : Job) → check_job j ≡ Status.Done → (i : ℕ) → i < j.head.n → (P : ℕ → ℤ) (d : ℤ)
+pub equations-equal : (j : Job) → check_job j ≡ Ok tt → (i : ℕ) → i < j.head.n → (P : ℕ → ℤ) (d : ℤ)
     → equation_num j.head.n (equation_of j i) P d ≡ formula_num j i P d
 equations-equal j checked i l = let a = check_done j checked in formulas.equation-is j a.few a.pin i l
 
@@ -89,8 +88,8 @@ pub old-texts : (t : List ℕ) → Unpinned t → read_job t ≡ read_before t
 old-texts = before.old-read
 
 -- with the last pinned,
-pub old-pinned : (t : List ℕ) → Unpinned t → (read_job t).status ≡ Status.Done
-    → (read_job t).job.head.pin ≡ last_pin (read_job t).job.head.kind (read_job t).job.head.n
+pub old-pinned : (t : List ℕ) → Unpinned t → status_of (read_job t) ≡ Ok tt
+    → (job_in (read_job t)).head.pin ≡ last_pin (job_in (read_job t)).head.kind (job_in (read_job t)).head.n
 old-pinned = before.old-last
 
 -- and document 01's formula: "the sum of a(i,j) x(j) over j < n, plus a(i,n), minus L x(i), where x(n) is 1"
@@ -108,12 +107,12 @@ pub never-written : (j : Job) → j.head.pin ≡ j.head.n → get_or (shown job_
 never-written = pins.never-written
 
 -- ""None" now reads: no fraction eigenpair in the box with that coordinate 1."
-pub none-pinned : (j : Job) → check_job j ≡ Status.Done → (a : ℕ) → (job_run j a).verdict ≡ Verdict.None
+pub none-pinned : (j : Job) → check_job j ≡ Ok tt → (a : ℕ) → (job_run j a).verdict ≡ Verdict.None
     → j.head.kind ≡ Kind.Eigen → (p : Point) → Eigenpair j p → Lies j.head.n p (start_of j) → ⊥
 none-pinned = demand3.none-eigen
 
 -- "In values handed over without text, a pin equal to n means the last" (`last-place`) "and is accepted;"
-pub last-accepted : (n : ℕ) → 0 < n → pin_check Kind.Eigen n n ≡ Finding.Fine
+pub last-accepted : (n : ℕ) → 0 < n → pin_check Kind.Eigen n n ≡ Ok tt
 last-accepted = fourth.last-fine
 
 -- "other kinds ignore it."
@@ -127,5 +126,5 @@ pub text-ignores : (j : Job) (p : ℕ) → after_n j.head.kind ≡ JobLine.Lo �
 text-ignores = pins.bytes-ignore
 
 -- values and text agree in faults and lines, the shifted ones too
-pub same-order : (j : Job) → Spelled j → length (job_bytes j) ≤ text_max → (read_job (job_bytes j)).status ≡ check_job j
+pub same-order : (j : Job) → Spelled j → length (job_bytes j) ≤ text_max → status_of (read_job (job_bytes j)) ≡ check_job j
 same-order = answers.same-order

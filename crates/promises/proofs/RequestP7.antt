@@ -8,8 +8,6 @@ use lib.ListN.{length}
 use Rattle.sizes.specs.Sizes.{text_max, steps_max}
 use Rattle.intervals.specs.declared.Interval.{Interval}
 use Rattle.intervals.specs.Places.{side_at}
-use Rattle.faults.specs.declared.Finding.{Finding}
-use Rattle.faults.specs.declared.Status.{Status}
 use Rattle.jobs.specs.declared.Ends.{Ends}
 use Rattle.jobs.specs.declared.Job.{Job}
 use Rattle.faults.specs.Checks.{first_of}
@@ -30,8 +28,9 @@ use Rattle.promises.specs.ByTwo.{run_by_two}
 use Rattle.promises.proofs.ByTwo as two
 use Rattle.runs.proofs.Results as runs
 use Rattle.promises.proofs.Results as results
+use Rattle.std.specs.Prelude.{Ok}
 
-module _ (j : Job) (checked : check_job j ≡ Status.Done) where
+module _ (j : Job) (checked : check_job j ≡ Ok tt) where
   -- the image of the box X, and the step on it, as every run has them
   abbrev image_on : List Interval → List Interval
   image_on = image_box j.head.n (equation_of j) (inverse_of j)
@@ -40,16 +39,16 @@ module _ (j : Job) (checked : check_job j ≡ Status.Done) where
   step_on = step_of j.head.n (equation_of j) (inverse_of j)
 
   -- a box in which nothing is found
-  module _ (x : Ends) (right : box_check j.head.n x ≡ Finding.Fine) where
+  module _ (x : Ends) (right : box_check j.head.n x ≡ Ok tt) where
     abbrev X : List Interval
     X = box_of j.head.n x
 
     -- "one operation gives K for a job and a box,"
-    pub image : gives_image j x ≡ record { status = Status.Done; ends = ends_of j.head.n (image_on X) }
+    pub image : gives_image j x ≡ record { status = Ok tt; ends = ends_of j.head.n (image_on X) }
     image = two.image-is j checked x right
 
     -- every image of an accepted job and a right box is taken by the second operation,
-    pub image-taken : image_check j.head.n (gives_image j x).ends ≡ Finding.Fine
+    pub image-taken : image_check j.head.n (gives_image j x).ends ≡ Ok tt
     image-taken = two.image-fine j checked x right
 
     -- "the other takes X and K and gives the verdict or the next box": together they are the step
@@ -61,7 +60,7 @@ module _ (j : Job) (checked : check_job j ≡ Status.Done) where
     run-through a = two.run-given j checked a 0 x right
 
     -- the result of such a run has no fault and can be written
-    pub run_sound : (a : ℕ) → a ≤ steps_max → check_result (result_of j (run_from j X a)) ≡ Status.Done
+    pub run_sound : (a : ℕ) → a ≤ steps_max → check_result (result_of j (run_from j X a)) ≡ Ok tt
     run_sound = runs.from-checked j checked X (two.box-right j checked x right)
 
     pub run_short : (a : ℕ) → a ≤ steps_max → length (show_result (result_of j (run_from j X a))) ≤ text_max
@@ -69,7 +68,7 @@ module _ (j : Job) (checked : check_job j ≡ Status.Done) where
 
   -- and so does the public entry, from the job's own box with its own allowance
   pub entry-through : run_job j
-      ≡ record { status = Status.Done; result = result_of j (run_by_two j j.steps 0 j.ends) }
+      ≡ Ok (result_of j (run_by_two j j.steps 0 j.ends))
   entry-through = two.entry-given j checked
 
 -- "A box handed in is checked like a job's lo and hi,": by the very checks of these lines
@@ -78,7 +77,7 @@ checked-alike = given.box-alike
 
 -- "K cut with X, the order of the three tests .. stay as they are": of any X and K that are taken, each verdict comes
 -- exactly where document 01 says
-module _ (n : ℕ) (x k : Ends) (taken : decide_check n x k ≡ Finding.Fine) where
+module _ (n : ℕ) (x k : Ends) (taken : decide_check n x k ≡ Ok tt) where
   abbrev side : Ends → ℕ → Interval
   side e = side_at (box_of n e)
 

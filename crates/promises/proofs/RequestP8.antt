@@ -6,7 +6,6 @@ use mathlib.Core.List.{List, []}
 use Prim.Native.Nat.{ℕ, ◌≤◌, ◌^◌}
 use lib.ListN.{length}
 use Rattle.intervals.specs.declared.Interval.{Interval}
-use Rattle.faults.specs.declared.Status.{Status}
 use Rattle.jobs.specs.declared.Job.{Job}
 use Rattle.checks.specs.Checks.{check_job}
 use Rattle.checks.specs.Accepted.{Accepted}
@@ -21,8 +20,9 @@ use Rattle.promises.specs.Jobs.{Solves}
 use Rattle.promises.specs.Halved.{InListed}
 use Rattle.promises.proofs.Jobs.{solves-zero}
 use Rattle.promises.proofs.Halved as halved
+use Rattle.std.specs.Prelude.{Ok}
 
-module _ (j : Job) (checked : check_job j ≡ Status.Done) where
+module _ (j : Job) (checked : check_job j ≡ Ok tt) where
   accepted : Accepted j
   accepted = check_done j checked
 

@@ -9,9 +9,9 @@ use lib.Dec.{eqb}
 use borrow.Author.Tests.{le-ltb}
 use Rattle.digits.specs.Bytes.{line_feed}
 use Rattle.text.specs.Cut.{Cut, fresh, feed, feeds}
-use Rattle.reading.specs.Got.{Got}
 use Rattle.reading.specs.Lines.{Next, Form, State, Answer, Part, heard, step, begin, more, ended, ended_cut}
 use Rattle.reading.specs.Lines.{closed, Reads}
+use Rattle.std.specs.Prelude.{Ok, Err, Result}
 
 -- a good state is not a bad one
 pub at-bad : {A F L X : Type 0} {f : F} {n : ℕ} {k : L} {v : X}
@@ -94,8 +94,8 @@ module _ {F L X : Type 0} (g : Form F L X) where
   unfolding step heard
   bad-number k v l f n e = go (g.last k) (g.says k v l) e
     where
-      go : (t : Bool) (r : Got F (Next L X))
+      go : (t : Bool) (r : Result (Next L X) F)
           → cond t (State.bad g.odd (g.number k v)) (heard (g.number k v) r) ≡ State.bad f n → g.number k v ≡ n
       go true r q = cc
-      go false (Got.fault x) q = cc
-      go false (Got.got x) q = at-bad q
+      go false (Err x) q = cc
+      go false (Ok x) q = at-bad q

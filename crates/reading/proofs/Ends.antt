@@ -11,8 +11,9 @@ use borrow.Author.Tests.{eqb-true, eqb-false}
 use Rattle.digits.specs.Bytes.{line_feed}
 use Rattle.text.specs.Cut.{place_of, PieceEnd}
 use Rattle.text.proofs.Ends.{end-from}
-use Rattle.reading.specs.Got.{Got, after}
+use Rattle.reading.specs.Results.{after}
 use Rattle.reading.specs.Places.{part, line_length, line_end, line_at}
+use Rattle.std.specs.Prelude.{Err, Result}
 
 -- the first line of a text
 first-end : (s : List ℕ) → PieceEnd s line_feed 0 (line_length s)
@@ -64,11 +65,11 @@ module _ (t : List ℕ) (a : ℕ) where
   unfolding line_end
   end_is p = omega (arith, end-from p, p.after)
 
-pub line_after : {F A B : Type 0} (odd : F) (f : List ℕ → Got F A) (h : A → B) (t : List ℕ) (a : ℕ)
+pub line_after : {F A B : Type 0} (odd : F) (f : List ℕ → Result A F) (h : A → B) (t : List ℕ) (a : ℕ)
     → line_at odd (λ l. after (f l) h) t a ≡ after (line_at odd f t a) h
 unfolding line_at after
 line_after {F} {A} odd f h t a = go (ltb (line_end t a) (length t)) (f (part t a (line_end t a)))
   where
-    go : (b : Bool) (r : Got F A) → cond b (after r h) (Got.fault odd) ≡ after (cond b r (Got.fault odd)) h
+    go : (b : Bool) (r : Result A F) → cond b (after r h) (Err odd) ≡ after (cond b r (Err odd)) h
     go true r = refl
     go false r = refl

@@ -12,13 +12,13 @@ use Rattle.digits.specs.Bytes.{line_feed}
 use Rattle.digits.proofs.Cases.{either}
 use Rattle.text.specs.Cut.{fresh}
 use Rattle.text.proofs.Cuts.{at_part, all-fed, held, piece}
-use Rattle.reading.specs.Got.{Got}
 use Rattle.reading.specs.Lines.{Next, Form, State, Answer, heard, step, begin, opened, more, ended, ended_cut}
 use Rattle.reading.specs.Lines.{closed, read}
 use Rattle.reading.specs.Places.{part, line_end, line_at, rest, Goes}
 use Rattle.reading.proofs.Decided.{bad-ends}
 use Rattle.reading.proofs.Ends.{line-end}
 use Rattle.reading.proofs.Told.{fault-got}
+use Rattle.std.specs.Prelude.{Ok, Err, Result}
 
 pub and-false : (b : Bool) → b && false ≡ false
 and-false true = refl
@@ -69,14 +69,14 @@ module _ {F L X : Type 0} (g : Form F L X) (t : List ℕ) where
 
   module _ (k : L) (v : X) (a : ℕ) (h : a ≤ length t) where
     -- what a line makes of the text from it on
-    heard-at : Got F (Next L X) → Answer F X
-    heard-at (Got.got x) = rest g t (State.at x.kind x.value) (line_end t a + 1)
-    heard-at (Got.fault f) = Answer.refused f (g.number k v)
+    heard-at : Result (Next L X) F → Answer F X
+    heard-at (Ok x) = rest g t (State.at x.kind x.value) (line_end t a + 1)
+    heard-at (Err f) = Answer.refused f (g.number k v)
 
-    heard-line : (r : Got F (Next L X)) → rest g t (heard (g.number k v) r) (line_end t a + 1) ≡ heard-at r
+    heard-line : (r : Result (Next L X) F) → rest g t (heard (g.number k v) r) (line_end t a + 1) ≡ heard-at r
     unfolding heard heard-at
-    heard-line (Got.got x) = refl
-    heard-line (Got.fault f) = rest-bad f (g.number k v) (line_end t a + 1)
+    heard-line (Ok x) = refl
+    heard-line (Err f) = rest-bad f (g.number k v) (line_end t a + 1)
 
     rest-line : g.last k ≡ false → rest g t (State.at k v) a ≡ heard-at (line_at g.odd (g.says k v) t a)
     unfolding line_at step heard-at
@@ -89,7 +89,7 @@ module _ {F L X : Type 0} (g : Form F L X) (t : List ℕ) where
         rw (le-ltb (line_end t a) (length t) q)
         (line-held (State.at k v) a h q ∙ odd-end k v (length t - a) (rw left (and-false (eqb (length t - a) 0)))))
 
-    line-inside : {x : Next L X} → line_at g.odd (g.says k v) t a ≡ Got.got x → line_end t a + 1 ≤ length t
+    line-inside : {x : Next L X} → line_at g.odd (g.says k v) t a ≡ Ok x → line_end t a + 1 ≤ length t
     unfolding line_at
     line-inside e =
         either (line_end t a) (length t)
@@ -97,13 +97,13 @@ module _ {F L X : Type 0} (g : Form F L X) (t : List ℕ) where
         (λ q. fault-got (rw (le-ltb (line_end t a) (length t) q) at e))
 
     -- a line that is read
-    pub goes-line : g.last k ≡ false → (x : Next L X) → line_at g.odd (g.says k v) t a ≡ Got.got x
+    pub goes-line : g.last k ≡ false → (x : Next L X) → line_at g.odd (g.says k v) t a ≡ Ok x
         → Goes g t a k v (State.at x.kind x.value) (line_end t a + 1)
     unfolding heard-at
     goes-line left x e = record { inside = line-inside e; same = rest-line left ∙ ap heard-at e }
 
     -- a bad line: nothing after it plays a part
-    pub goes-fault : g.last k ≡ false → (f : F) → line_at g.odd (g.says k v) t a ≡ Got.fault f
+    pub goes-fault : g.last k ≡ false → (f : F) → line_at g.odd (g.says k v) t a ≡ Err f
         → (b : ℕ) → b ≤ length t → Goes g t a k v (State.bad f (g.number k v)) b
     unfolding heard-at
     goes-fault left f e b q =
@@ -137,9 +137,9 @@ module _ {F L X : Type 0} (g : Form F L X) (t : List ℕ) where
         ∙ sym (rest-line k' v a h left');
   }
     where
-      go : (r : Got F (Next L X)) → heard-at k v a h r ≡ heard-at k' v a h r
-      go (Got.got x) = refl
-      go (Got.fault f) = ap (Answer.refused f) number
+      go : (r : Result (Next L X) F) → heard-at k v a h r ≡ heard-at k' v a h r
+      go (Ok x) = refl
+      go (Err f) = ap (Answer.refused f) number
 
   -- no line
   pub goes_none : (a : ℕ) (k : L) (v : X) → a ≤ length t → Goes g t a k v (State.at k v) a

@@ -11,11 +11,11 @@ use borrow.Author.Tests.{ltb-false, le-ltb}
 use Rattle.digits.specs.Bytes.{line_feed}
 use Rattle.text.specs.Cut.{pieces, rest}
 use Rattle.text.proofs.Pieces.{AllAbove, cut-fold, fed-each}
-use Rattle.reading.specs.Got.{Got}
 use Rattle.reading.specs.Lines.{Next, Form, State, Answer, heard, step, begin, opened, more, ended, ended_cut}
 use Rattle.reading.specs.Lines.{closed, read, bytes}
 use Rattle.reading.specs.Narrower.{NarrowLine, limited, Narrower, NarrowAnswer}
 use Rattle.reading.proofs.Decided.{stays-bad}
+use Rattle.std.specs.Prelude.{Result}
 
 -- a text is read by its lines, and the bytes after the last of them
 pub read-lines : {F L X : Type 0} (g : Form F L X) (t : List ℕ) → length t ≤ g.most
@@ -32,7 +32,7 @@ unfolding read closed more opened ended
 lines-bad g ls f n plain h e =
     rw (le-ltb g.most (0 + length (bytes ls)) (omega arith), fed-each (step g) line_feed ls (begin g) plain, e)
 
-module _ {F L X : Type 0} (h : Form F L X) (says : L → X → List ℕ → Got F (Next L X)) (most : ℕ) (f : F) (n : ℕ)
+module _ {F L X : Type 0} (h : Form F L X) (says : L → X → List ℕ → Result (Next L X) F) (most : ℕ) (f : F) (n : ℕ)
     (narrower : Narrower h says most f n) where
   abbrev g : Form F L X
   g = limited h says most
@@ -42,7 +42,7 @@ module _ {F L X : Type 0} (h : Form F L X) (says : L → X → List ℕ → Got 
     same : s ≡ u → Near s u
     faulty : s ≡ State.bad f n → Near s u
 
-  heard-near : {r q : Got F (Next L X)} → NarrowLine f r q → Near (heard n r) (heard n q)
+  heard-near : {r q : Result (Next L X) F} → NarrowLine f r q → Near (heard n r) (heard n q)
   unfolding heard
   heard-near (NarrowLine.same e) = Near.same (ap (heard n) e)
   heard-near (NarrowLine.faulty e) = Near.faulty (ap (heard n) e)

@@ -12,12 +12,10 @@ use Rattle.lists.specs.Loops.{tab}
 use Rattle.lists.proofs.Tab.{length-tab, get_or-tab, tab-cong}
 use Rattle.digits.specs.Number.{digits_max, read_number}
 use Rattle.digits.specs.Show.{show_magnitude, show_signed}
-use Rattle.digits.specs.declared.Number.{Number}
 use Rattle.digits.proofs.ReadBack.{number-back}
 use Rattle.text.specs.Keys.{body_of}
 use Rattle.text.specs.Counts.{in_count, count_of}
 use Rattle.text.specs.Lists.{places_max, read_list, joined, show_all, show_list, Below, Small}
-use Rattle.text.specs.declared.Count.{Count}
 use Rattle.text.specs.declared.Numbers.{Numbers}
 use Rattle.digits.specs.Bytes.{line_feed}
 use Rattle.text.proofs.Pieces.{Above, above-append, magnitude-above}
@@ -25,9 +23,11 @@ use Rattle.text.proofs.Keys.{body_own}
 use Rattle.text.proofs.Counts.{count-was, count-size}
 use Rattle.text.proofs.Lists.{list-above, list-was, list_back, list_counts}
 use Rattle.text.proofs.ListLines.{no-list, list-line}
-use Rattle.reading.specs.Got.{Got, Told, refuse}
+use Rattle.reading.specs.Results.{Told, refuse}
 use Rattle.reading.specs.NumberLines.{placed, counted, count_line, listed, list_line, rowed, row_line}
 use Rattle.reading.proofs.Told.{not-false, told-got, told-fault, told-unless}
+use Rattle.std.specs.Prelude.{Ok, Err, Some}
+use Rattle.text.specs.declared.Uncounted.{Uncounted}
 
 -- ---- no line of numbers holds an LF
 
@@ -110,11 +110,11 @@ module _ {F : Type 0} (odd : F) where
   unfolding count_line counted
   count-told out key most l = go (count_of most (read_number (body_of key l))) refl
     where
-      go : (c : Count) → count_of most (read_number (body_of key l)) ≡ c
+      go : (c : Result ℕ Uncounted) → count_of most (read_number (body_of key l)) ≡ c
           → Told (λ m. (key ++ show_magnitude digits_max m ≡ l) × (m ≤ most)) (counted odd out c)
-      go Count.Bad e = told-fault odd
-      go Count.Out e = told-fault out
-      go (Count.Is m) e = told-got m (count-was most key l m e, count-size most _ m e)
+      go (Err Uncounted.Bad) e = told-fault odd
+      go (Err Uncounted.Out) e = told-fault out
+      go (Ok m) e = told-got m (count-was most key l m e, count-size most _ m e)
 
   module _ (key l : List ℕ) (m : ℕ) (h : m ≤ places_max) where
     pub list-line-told : Told (λ x. ListWas key l m x.count x.row) (list_line odd key m l)
@@ -132,13 +132,13 @@ module _ {F : Type 0} (odd : F) where
   -- ---- a line that is shown
 
   pub count-line-back : (out : F) (key : List ℕ) (most m : ℕ) → m < 10 ^ digits_max
-      → count_line odd out key most (key ++ show_magnitude digits_max m) ≡ refuse (ltb most m) out (Got.got m)
+      → count_line odd out key most (key ++ show_magnitude digits_max m) ≡ refuse (ltb most m) out (Ok m)
   unfolding count_line counted count_of in_count show_signed
   count-line-back out key most m h =
-      let e : read_number (show_magnitude digits_max m) ≡ Number.Is (pos m) = number-back (pos m) h in
+      let e : read_number (show_magnitude digits_max m) ≡ Some (pos m) = number-back (pos m) h in
       rw (body_own key (show_magnitude digits_max m), e) (go (ltb most m))
     where
-      go : (t : Bool) → counted odd out (cond t Count.Out (Count.Is m)) ≡ refuse t out (Got.got m)
+      go : (t : Bool) → counted odd out (cond t (Err Uncounted.Out) (Ok m)) ≡ refuse t out (Ok m)
       go true = refl
       go false = refl
 
@@ -147,7 +147,7 @@ module _ {F : Type 0} (odd : F) where
     shown_list = key ++ show_list (placed n n xs)
 
     -- no list is empty
-    pub list-line-none : n ≡ 0 → list_line odd key m shown_list ≡ Got.fault odd
+    pub list-line-none : n ≡ 0 → list_line odd key m shown_list ≡ Err odd
     unfolding list_line listed tab
     list-line-none e = rw (e, body_own key (show_list []), no-numbers, no-list)
 
@@ -176,12 +176,12 @@ module _ {F : Type 0} (odd : F) where
       -- its length is told, though there be no places for it
       pub list-line-back : m ≤ places_max
           → (row : List ℤ)
-          × (list_line odd key m shown_list ≡ Got.got (record { count = n; row = row }))
+          × (list_line odd key m shown_list ≡ Ok (record { count = n; row = row }))
           × (n ≤ m → row ≡ placed m n xs)
       unfolding list_line listed
       list-line-back h =
           (take m (read_list (body_of key shown_list)).vals, rw (list-ok, list_count), λ few. list-row few h)
 
-      pub row-line-back : n ≤ m → m ≤ places_max → row_line odd key m n shown_list ≡ Got.got (placed m n xs)
+      pub row-line-back : n ≤ m → m ≤ places_max → row_line odd key m n shown_list ≡ Ok (placed m n xs)
       unfolding row_line rowed
-      row-line-back few h = rw (list-ok, list_count, eq-eqb n n refl) (ap Got.got (list-row few h))
+      row-line-back few h = rw (list-ok, list_count, eq-eqb n n refl) (ap Ok (list-row few h))

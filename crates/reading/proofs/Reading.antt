@@ -11,10 +11,11 @@ use Rattle.digits.specs.Bytes.{line_feed}
 use Rattle.text.specs.Cut.{Cut, pieces, rest}
 use Rattle.text.proofs.Pieces.{cut-fold, cut-whole}
 use Rattle.text.proofs.Keys.{both}
-use Rattle.reading.specs.Got.{Got, Told}
+use Rattle.reading.specs.Results.{Told}
 use Rattle.reading.specs.Lines.{Next, Form, State, Answer, heard, step, begin, opened, more, ended, closed}
 use Rattle.reading.specs.Lines.{read, Reads, bytes}
 use Rattle.reading.proofs.Decided.{at-bad, stays-bad}
+use Rattle.std.specs.Prelude.{Ok, Err, Result}
 
 -- a refusal is no value
 pub refused-done : {A F X : Type 0} {f : F} {n : ℕ} {v : X}
@@ -30,7 +31,7 @@ module _ {F L X : Type 0} (g : Form F L X) where
   record Said (k : L) (v : X) (l : List ℕ) : Type 0 where
     next : Next L X
     left : g.last k ≡ false
-    says : g.says k v l ≡ Got.got next
+    says : g.says k v l ≡ Ok next
     is : State.at next.kind next.value ≡ step g (State.at k v) l
 
   said : (k : L) (v : X) (l : List ℕ) (ls : List (List ℕ)) (k' : L) (v' : X)
@@ -38,12 +39,12 @@ module _ {F L X : Type 0} (g : Form F L X) where
   unfolding step heard
   said k v l ls k' v' e = go (g.last k) refl (g.says k v l) refl e
     where
-      go : (t : Bool) → g.last k ≡ t → (r : Got F (Next L X)) → g.says k v l ≡ r
+      go : (t : Bool) → g.last k ≡ t → (r : Result (Next L X) F) → g.says k v l ≡ r
           → foldl (step g) (cond t (State.bad g.odd (g.number k v)) (heard (g.number k v) r)) ls ≡ State.at k' v'
           → Said k v l
       go true p r q f = at-bad (sym f ∙ stays-bad g ls g.odd (g.number k v))
-      go false p (Got.fault x) q f = at-bad (sym f ∙ stays-bad g ls x (g.number k v))
-      go false p (Got.got x) q f = record { next = x; left = p; says = q; is = rw (p, q) }
+      go false p (Err x) q f = at-bad (sym f ∙ stays-bad g ls x (g.number k v))
+      go false p (Ok x) q f = record { next = x; left = p; says = q; is = rw (p, q) }
 
   -- what holds of nothing, and of one line more, holds of all lines that are read without fault
   module _ (P : List (List ℕ) → L → X → Type 0)

@@ -11,7 +11,7 @@ use borrow.Author.Tests.{le-ltb}
 use Rattle.digits.specs.Bytes.{line_feed}
 use Rattle.text.specs.Cut.{Cut, fresh, feeds, end_each, pieces, rest}
 use Rattle.text.proofs.Pieces.{cut-fold, cut-whole}
-use Rattle.reading.specs.Got.{Got, Blamed}
+use Rattle.reading.specs.Results.{Blamed}
 use Rattle.reading.specs.Lines.{Next, Form, State, Answer, heard, step, begin, opened, more, ended, closed}
 use Rattle.reading.specs.Lines.{ended_cut, read, bytes}
 use Rattle.reading.specs.Places as places
@@ -20,6 +20,7 @@ use Rattle.reading.proofs.Decided.{at-bad, bad-ends, first-bad, bad-number}
 use Rattle.reading.proofs.Goes.{and-false, end-extra}
 use Rattle.reading.proofs.Reading.{refused-done}
 use Rattle.reading.proofs.Plain.{plain-cut, plain-parts, fed-plain, fed-line, fed-lines}
+use Rattle.std.specs.Prelude.{Ok, Err, Result}
 
 bytes-from : (a : List (List ℕ)) (l : List ℕ) (b : List (List ℕ)) (left : List ℕ)
     → bytes (a ++ (l ∷ b)) ++ left ≡ bytes a ++ (l ++ (line_feed ∷ (bytes b ++ left)))
@@ -42,13 +43,13 @@ module _ {F L X : Type 0} (g : Form F L X) where
       more-than-none [] o q = NextBad.extra line_feed after o q
       more-than-none (b ∷ l) o q = NextBad.extra b (l ++ (line_feed ∷ after)) o q
 
-      go : (t : Bool) → g.last k ≡ t → (r : Got F (Next L X)) → g.says k v l ≡ r
+      go : (t : Bool) → g.last k ≡ t → (r : Result (Next L X) F) → g.says k v l ≡ r
           → cond t (State.bad g.odd (g.number k v)) (heard (g.number k v) r) ≡ State.bad f n
           → NextBad g k v f (l ++ (line_feed ∷ after))
       go true o r p q = let same : g.odd ≡ f = cc in more-than-none l o same
-      go false o (Got.fault x) p q =
-          let same : x ≡ f = cc in NextBad.said l after plain o (p ∙ ap Got.fault same)
-      go false o (Got.got x) p q = at-bad q
+      go false o (Err x) p q =
+          let same : x ≡ f = cc in NextBad.said l after plain o (p ∙ ap Err same)
+      go false o (Ok x) p q = at-bad q
 
   -- and with one that is not
   end-bad : (k : L) (v : X) (f : F) (left : List ℕ) → Plain left → eqb (length left) 0 && g.last k ≡ false

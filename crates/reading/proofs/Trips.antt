@@ -7,7 +7,7 @@ use mathlib.Core.Logic.{◌↔◌, inl, inr}
 use lib.ListN.{length}
 use Rattle.digits.specs.Bytes.{line_feed}
 use Rattle.text.proofs.Pieces.{Above}
-use Rattle.reading.specs.Got.{Told}
+use Rattle.reading.specs.Results.{Told}
 use Rattle.reading.specs.Lines.{Form, Next, Answer, read, Reads, bytes}
 use Rattle.reading.specs.Refused.{Refused}
 use Rattle.reading.specs.Shows.{Shows, lines_of, before, shown, live, Passed, Kept, judged}

@@ -9,12 +9,13 @@ use lib.ListN.{length}
 use borrow.Author.Tests.{le-ltb}
 use Rattle.digits.specs.Bytes.{line_feed}
 use Rattle.text.proofs.Pieces.{Above, AllAbove, fed-each}
-use Rattle.reading.specs.Got.{Got, after}
+use Rattle.reading.specs.Results.{after}
 use Rattle.reading.specs.Lines.{Form, State, Answer, heard, step, begin, opened, more, ended, closed, read, bytes}
 use Rattle.reading.specs.Shows.{Shows, lines_of, shown, live, Passed, unless_found, findings, judged}
 use Rattle.reading.proofs.Decided.{stays-bad}
 use Rattle.reading.proofs.Reading.{refused-done}
 use Rattle.reading.proofs.Told.{fault-got}
+use Rattle.std.specs.Prelude.{Ok, Err, Result}
 
 -- lines without fault, and more of them; lines without a line feed
 module _ {F L X : Type 0} (w : Shows F L X) (v : X) where
@@ -23,7 +24,7 @@ module _ {F L X : Type 0} (w : Shows F L X) (v : X) where
   passed-join (k ∷ a) b p q = (p.0, passed-join a b p.1 q)
 
   -- the line after those before it
-  pub passed-next : (k : L) → Passed w (w.prior k v) v → w.check k v ≡ Got.got tt
+  pub passed-next : (k : L) → Passed w (w.prior k v) v → w.check k v ≡ Ok tt
       → Passed w (w.prior k v ++ (k ∷ [])) v
   passed-next k p e = passed-join (w.prior k v) (k ∷ []) p (e, tt)
 
@@ -56,11 +57,11 @@ module _ {F L X : Type 0} (g : Form F L X) (w : Shows F L X) (q : X) where
   done-passed [] v e = tt
   done-passed (k ∷ ks) v e = go (w.check k q) refl e (λ f. done-passed ks v f)
     where
-      go : (c : Got F (Unit {0})) → w.check k q ≡ c
+      go : (c : Result (Unit {0}) F) → w.check k q ≡ c
           → unless_found c (g.number k (w.upto k q)) (findings g w q ks) ≡ Answer.done v
-          → (findings g w q ks ≡ Answer.done v → Passed w ks q) → (w.check k q ≡ Got.got tt) × Passed w ks q
-      go (Got.got u) p f on = (p, on f)
-      go (Got.fault x) p f on = refused-done f
+          → (findings g w q ks ≡ Answer.done v → Passed w ks q) → (w.check k q ≡ Ok tt) × Passed w ks q
+      go (Ok u) p f on = (p, on f)
+      go (Err x) p f on = refused-done f
 
   -- Has tells the kinds that are reached, Spelt those whose values can be spelled
   module _ (Has Spelt : L → Type 0) where
@@ -69,11 +70,11 @@ module _ {F L X : Type 0} (g : Form F L X) (w : Shows F L X) (q : X) where
       pub says : Spelt k
           → g.says k (w.upto k q) (w.line k q)
           ≡ after (w.check k q) (λ u. record { kind = w.next k q; value = w.upto (w.next k q) q })
-      pub spelt : w.check k q ≡ Got.got tt → Spelt k
-      pub has : w.check k q ≡ Got.got tt → Has (w.next k q)
+      pub spelt : w.check k q ≡ Ok tt → Spelt k
+      pub has : w.check k q ≡ Ok tt → Has (w.next k q)
 
     -- a line that is shown, and passes, is read
-    pub line_read : {k : L} → Law k → g.last k ≡ false → w.check k q ≡ Got.got tt
+    pub line_read : {k : L} → Law k → g.last k ≡ false → w.check k q ≡ Ok tt
         → step g (State.at k (w.upto k q)) (w.line k q) ≡ State.at (w.next k q) (w.upto (w.next k q) q)
     unfolding step heard after
     line_read a left e = rw (left, a.says (a.spelt e), e)
@@ -89,17 +90,17 @@ module _ {F L X : Type 0} (g : Form F L X) (w : Shows F L X) (q : X) where
       walked Tied.none h r = rw last
       walked (Tied.one {k} {ks} left tied) h r = go (w.check k q) refl r (λ x y. walked tied x y)
         where
-          go : (c : Got F (Unit {0})) → w.check k q ≡ c → Ready (k ∷ ks)
+          go : (c : Result (Unit {0}) F) → w.check k q ≡ c → Ready (k ∷ ks)
               → (Has (w.next k q) → Ready ks
               → ended g (foldl (step g) (State.at (w.next k q) (w.upto (w.next k q) q)) (lines_of w q ks)) 0
               ≡ findings g w q ks)
               → ended g (foldl (step g) (step g (State.at k (w.upto k q)) (w.line k q)) (lines_of w q ks)) 0
               ≡ unless_found c (g.number k (w.upto k q)) (findings g w q ks)
-          go (Got.got u) e r on =
+          go (Ok u) e r on =
               let a = law k h left in
               rw (left, a.says (a.spelt e), e) (on (a.has e) (⊎_elim (λ p. inl p.1) inr r))
-          go (Got.fault f) e (inl p) on = fault-got (sym e ∙ p.0)
-          go (Got.fault f) e (inr all) on =
+          go (Err f) e (inl p) on = fault-got (sym e ∙ p.0)
+          go (Err f) e (inr all) on =
               rw (left, (law k h left).says (all k h), e, stays-bad g (lines_of w q ks) f (g.number k (w.upto k q)))
 
       pub read-shown : w.upto g.first q ≡ g.none → Has g.first → Tied g.first (w.prior w.end q)

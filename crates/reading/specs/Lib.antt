@@ -1,4 +1,4 @@
-pub mod Got
+pub mod Results
 pub mod NumberLines
 pub mod Lines
 pub mod Places

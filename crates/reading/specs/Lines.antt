@@ -1,11 +1,10 @@
 -- A text of lines, read and written: document 01, "The job text and the result text" and "Fault numbers", for any
 -- value.
 -- F are the faults, L the kinds of lines, X the values.
-use Rattle.std.specs.Prelude.{ℕ, ◌+◌, ◌≡◌, Bool, cond, ◌&&◌, length, eqb, ltb}
+use Rattle.std.specs.Prelude.{ℕ, ◌+◌, ◌≡◌, Bool, cond, ◌&&◌, length, eqb, ltb, Ok, Err, Result}
 use mathlib.Core.List.{List, [], ◌∷◌, ◌++◌, foldl}
 use Rattle.digits.specs.Bytes.{line_feed}
 use Rattle.text.specs.Cut.{Cut, fresh, feeds, end_each}
-use Rattle.reading.specs.Got.{Got}
 
 -- what a line leaves: the kind of the line after it, and what all lines so far say
 pub record Next (L X : Type 0) : Type 0 where
@@ -21,7 +20,7 @@ pub record Form (F L X : Type 0) : Type 0 where
   pub last : L → Bool
   -- the number of a line of this kind, where the lines before it say this
   pub number : L → X → ℕ
-  pub says : L → X → List ℕ → Got F (Next L X)
+  pub says : L → X → List ℕ → Result (Next L X) F
   -- how many bytes a text may have, and the fault of one that has more
   pub most : ℕ
   pub long : F
@@ -43,9 +42,9 @@ pub record Part (F L X : Type 0) : Type 0 where
   pub cut : Cut (State F L X)
   pub size : ℕ
 
-unfoldable pub heard : {F L X : Type 0} → ℕ → Got F (Next L X) → State F L X
-heard n (Got.got x) = State.at x.kind x.value
-heard n (Got.fault f) = State.bad f n
+unfoldable pub heard : {F L X : Type 0} → ℕ → Result (Next L X) F → State F L X
+heard n (Ok x) = State.at x.kind x.value
+heard n (Err f) = State.bad f n
 
 module _ {F L X : Type 0} (g : Form F L X) where
   -- "lines are taken in order and the first bad line decides"; "bytes after the last line are an extra line"

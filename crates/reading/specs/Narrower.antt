@@ -1,11 +1,10 @@
 -- Two readings of the same lines, one of which takes less: it has a lower limit of bytes, and a fault for a line that
 -- the other may take.
-use Rattle.std.specs.Prelude.{ℕ, ◌≤◌, ◌≡◌, List, ◌⊎◌}
-use Rattle.reading.specs.Got.{Got}
+use Rattle.std.specs.Prelude.{ℕ, ◌≤◌, ◌≡◌, List, ◌⊎◌, Err, Result}
 use Rattle.reading.specs.Lines.{Form, Next, Answer}
 
 -- a form with other lines and another limit of bytes
-abbrev pub limited : {F L X : Type 0} → Form F L X → (L → X → List ℕ → Got F (Next L X)) → ℕ → Form F L X
+abbrev pub limited : {F L X : Type 0} → Form F L X → (L → X → List ℕ → Result (Next L X) F) → ℕ → Form F L X
 limited h says most = record {
   first = h.first;
   none = h.none;
@@ -18,12 +17,12 @@ limited h says most = record {
 }
 
 -- what the narrower one makes of a line: the same, or its fault f
-pub data NarrowLine {F A : Type 0} (f : F) (narrow wide : Got F A) : Type 0 where
+pub data NarrowLine {F A : Type 0} (f : F) (narrow wide : Result A F) : Type 0 where
   same : narrow ≡ wide → NarrowLine f narrow wide
-  faulty : narrow ≡ Got.fault f → NarrowLine f narrow wide
+  faulty : narrow ≡ Err f → NarrowLine f narrow wide
 
 -- the lines are the same but for those of one kind, whose number is n
-pub record Narrower {F L X : Type 0} (h : Form F L X) (says : L → X → List ℕ → Got F (Next L X)) (most : ℕ) (f : F)
+pub record Narrower {F L X : Type 0} (h : Form F L X) (says : L → X → List ℕ → Result (Next L X) F) (most : ℕ) (f : F)
     (n : ℕ) : Type 0 where
   pub line : (k : L) (v : X) (l : List ℕ)
       → (says k v l ≡ h.says k v l) ⊎ ((h.number k v ≡ n) × NarrowLine f (says k v l) (h.says k v l))

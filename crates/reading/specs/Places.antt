@@ -1,8 +1,7 @@
 -- A line where it stands in the text.
-use Rattle.std.specs.Prelude.{ℕ, ◌+◌, ◌-◌, ◌≤◌, ◌≡◌, List, cond, length, take, drop, ltb}
+use Rattle.std.specs.Prelude.{ℕ, ◌+◌, ◌-◌, ◌≤◌, ◌≡◌, List, cond, length, take, drop, ltb, Err, Result}
 use Rattle.digits.specs.Bytes.{line_feed}
 use Rattle.text.specs.Cut.{place_of, fresh, feeds}
-use Rattle.reading.specs.Got.{Got}
 use Rattle.reading.specs.Lines.{Form, State, Answer, step, ended_cut}
 
 -- the bytes from a up to e
@@ -18,8 +17,8 @@ unfoldable pub line_end : List ℕ → ℕ → ℕ
 line_end t a = a + line_length (drop a t)
 
 -- what is made of the bytes of the line that begins at a: "Lines end in one LF, the last too"
-unfoldable pub line_at : {F A : Type 0} → F → (List ℕ → Got F A) → List ℕ → ℕ → Got F A
-line_at odd f t a = cond (ltb (line_end t a) (length t)) (f (part t a (line_end t a))) (Got.fault odd)
+unfoldable pub line_at : {F A : Type 0} → F → (List ℕ → Result A F) → List ℕ → ℕ → Result A F
+line_at odd f t a = cond (ltb (line_end t a) (length t)) (f (part t a (line_end t a))) (Err odd)
 
 module _ {F L X : Type 0} (g : Form F L X) (t : List ℕ) where
   -- what the text from a on makes of what is read so far

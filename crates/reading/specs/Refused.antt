@@ -1,7 +1,6 @@
 -- Where a text of lines is refused: "lines are taken in order and the first bad line decides".
-use Rattle.std.specs.Prelude.{ℕ, ◌≡◌, List, [], ◌∷◌, ◌++◌, true, false, length}
+use Rattle.std.specs.Prelude.{ℕ, ◌≡◌, List, [], ◌∷◌, ◌++◌, true, false, length, Err}
 use Rattle.digits.specs.Bytes.{line_feed}
-use Rattle.reading.specs.Got.{Got}
 use Rattle.reading.specs.Lines.{Form, State, opened, more, Reads, bytes}
 use Rattle.reading.specs.Places.{line_length}
 
@@ -21,7 +20,7 @@ module _ {F L X : Type 0} (g : Form F L X) where
   -- where a line of kind k is to come after lines that say v, and these bytes are left
   pub data NextBad (k : L) (v : X) (f : F) : List ℕ → Type 0 where
     -- the line is there, and says the fault
-    said : (l after : List ℕ) → Plain l → g.last k ≡ false → g.says k v l ≡ Got.fault f
+    said : (l after : List ℕ) → Plain l → g.last k ≡ false → g.says k v l ≡ Err f
         → NextBad k v f (l ++ (line_feed ∷ after))
     -- "a line missing"; "Lines end in one LF, the last too"
     missing : (left : List ℕ) → Plain left → g.last k ≡ false → g.odd ≡ f → NextBad k v f left

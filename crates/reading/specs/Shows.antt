@@ -1,7 +1,6 @@
 -- A value as a text of lines: its lines in their order, what the check of each finds, and what a reader has of the
 -- value by then.
-use Rattle.std.specs.Prelude.{ℕ, ◌≡◌, List, [], ◌∷◌, map}
-use Rattle.reading.specs.Got.{Got}
+use Rattle.std.specs.Prelude.{ℕ, ◌≡◌, List, [], ◌∷◌, map, Ok, Err, Result}
 use Rattle.reading.specs.Lines.{Form, Answer}
 
 pub record Shows (F L X : Type 0) : Type 0 where
@@ -12,7 +11,7 @@ pub record Shows (F L X : Type 0) : Type 0 where
   -- the kind where no line is left
   pub end : L
   -- what the check of the values of a line finds
-  pub check : L → X → Got F (Unit {0})
+  pub check : L → X → Result (Unit {0}) F
   -- what is read of a value before a line of some kind
   pub upto : L → X → X
 
@@ -33,7 +32,7 @@ module _ {F L X : Type 0} (w : Shows F L X) where
   -- no check of these kinds finds a fault
   abbrev pub Passed : List L → X → Type 0
   Passed [] v = Unit {0}
-  Passed (k ∷ ks) v = (w.check k v ≡ Got.got tt) × Passed ks v
+  Passed (k ∷ ks) v = (w.check k v ≡ Ok tt) × Passed ks v
 
   -- what holds of a value that is read up to a line of some kind: the checks of the lines before it, and nothing
   -- more is read
@@ -41,9 +40,9 @@ module _ {F L X : Type 0} (w : Shows F L X) where
     pub passed : Passed (w.prior k v) v
     pub only : w.upto k v ≡ v
 
-unfoldable pub unless_found : {F X : Type 0} → Got F (Unit {0}) → ℕ → Answer F X → Answer F X
-unless_found (Got.got u) n a = a
-unless_found (Got.fault f) n a = Answer.refused f n
+unfoldable pub unless_found : {F X : Type 0} → Result (Unit {0}) F → ℕ → Answer F X → Answer F X
+unless_found (Ok u) n a = a
+unless_found (Err f) n a = Answer.refused f n
 
 module _ {F L X : Type 0} (g : Form F L X) (w : Shows F L X) (q : X) where
   -- "Values handed over without text get the same checks in the same line order."

@@ -12,23 +12,24 @@ use Rattle.requests.specs.declared.Named.{Named}
 use Rattle.requests.specs.declared.Request.{Request}
 use Rattle.requests.specs.Requests.{operation_of, takes_text, call_takes, asked, after_space, split, request_of}
 use Rattle.requests.specs.Packets.{words_of}
+use Rattle.std.specs.Prelude.{Some, None, Option}
 
-words-asked : (name : Named) (n : Counted) (words : ℕ) → words_of (asked name n words) ≤ words
+words-asked : (name : Named) (n : Option ℕ) (words : ℕ) → words_of (asked name n words) ≤ words
 unfolding asked
-words-asked (Named.Is op) (Counted.Is n) words = by (takes_text op n)
+words-asked (Named.Is op) (Some n) words = by (takes_text op n)
   where
     by : (t : Bool) → words_of (cond t (Request.Ask op n words) Request.Bad) ≤ words
     by true = omega arith
     by false = omega arith
-words-asked (Named.Is op) Counted.Bad words = omega arith
-words-asked Named.Lists (Counted.Is n) words = omega arith
-words-asked Named.Lists Counted.Bad words = omega arith
-words-asked (Named.Calls call) (Counted.Is n) words = by (call_takes call n)
+words-asked (Named.Is op) None words = omega arith
+words-asked Named.Lists (Some n) words = omega arith
+words-asked Named.Lists None words = omega arith
+words-asked (Named.Calls call) (Some n) words = by (call_takes call n)
   where
     by : (t : Bool) → words_of (cond t (Request.Call call n words) Request.Bad) ≤ words
     by true = omega arith
     by false = omega arith
-words-asked (Named.Calls call) Counted.Bad words = omega arith
+words-asked (Named.Calls call) None words = omega arith
 words-asked Named.Unknown n words = omega arith
 
 words-split : (at : ℕ) (l : List ℕ) → at ≤ length l → words_of (split at l) ≤ length l

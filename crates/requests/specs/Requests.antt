@@ -1,7 +1,7 @@
 -- The line of a request, without its LF: what is asked with its arguments, one space, and the length of the text that
 -- follows.
-use Rattle.std.specs.Prelude.{ℕ, zero, suc, ◌-◌, ◌≤◌, ◌≡◌, List, [], ◌∷◌, Bool, true, cond, length, get_or, take}
-use Rattle.std.specs.Prelude.{drop, eqb}
+use Rattle.std.specs.Prelude.{ℕ, zero, suc, ◌-◌, ◌≤◌, ◌≡◌, List, [], ◌∷◌, Bool, true, cond, length, get_or, take, drop, eqb, Some, None}
+use Rattle.std.specs.Prelude.{Option}
 use Rattle.text.specs.Keys.{same_bytes}
 use Rattle.arguments.specs.Counts.{count_by}
 use Rattle.arguments.specs.Words.{space, before, behind}
@@ -129,13 +129,13 @@ call_takes Call.Reading n = eqb n 0
 call_takes Call.Close n = eqb n 0
 
 -- what so many bytes of the line ask, of a text of so many
-unfoldable pub asked : Named → Counted → ℕ → Request
-asked (Named.Is op) (Counted.Is n) words = cond (takes_text op n) (Request.Ask op n words) Request.Bad
-asked (Named.Is op) Counted.Bad words = Request.Bad
-asked Named.Lists (Counted.Is n) words = Request.List n words
-asked Named.Lists Counted.Bad words = Request.Bad
-asked (Named.Calls call) (Counted.Is n) words = cond (call_takes call n) (Request.Call call n words) Request.Bad
-asked (Named.Calls call) Counted.Bad words = Request.Bad
+unfoldable pub asked : Named → Option ℕ → ℕ → Request
+asked (Named.Is op) (Some n) words = cond (takes_text op n) (Request.Ask op n words) Request.Bad
+asked (Named.Is op) None words = Request.Bad
+asked Named.Lists (Some n) words = Request.List n words
+asked Named.Lists None words = Request.Bad
+asked (Named.Calls call) (Some n) words = cond (call_takes call n) (Request.Call call n words) Request.Bad
+asked (Named.Calls call) None words = Request.Bad
 asked Named.Unknown n words = Request.Bad
 
 -- the place behind the last space among the first i bytes; 0 where there is none

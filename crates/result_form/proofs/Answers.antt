@@ -6,7 +6,7 @@ use mathlib.Core.Logic.{◌↔◌}
 use lib.ListN.{length}
 use Rattle.sizes.specs.Sizes.{text_max}
 use Rattle.faults.specs.declared.Fault.{Fault}
-use Rattle.faults.specs.declared.Status.{Status}
+use Rattle.faults.specs.Checked.{Status, refused}
 use Rattle.checks.specs.CheckResult.{check_result}
 use Rattle.jobs.specs.Zero.{no_result}
 use Rattle.jobs.specs.declared.Result.{Result}
@@ -22,6 +22,7 @@ use Rattle.result_form.specs.ResultShows.{result_shows, show_result, live, Spell
 use Rattle.result_form.proofs.Back.{Has, Spelt}
 use Rattle.result_form.proofs.Trips.{laws}
 use Rattle.result_form.proofs.Trips as trips
+use Rattle.std.specs.Prelude.{Ok}
 
 pub answer-status : (a : Answer Fault Result) → (result_answer a).status ≡ status_of a
 answer-status (Answer.done r) = refl
@@ -32,29 +33,29 @@ pub line-number : (t : List ℕ) (f : Fault) (n : ℕ) (b : Refused result_form_
 line-number = numbered result_form_of result_shows Has Spelt laws
 
 module _ (t : List ℕ) where
-  pub read-status : (read_result t).status ≡ status_of (read result_form_of t)
+  pub read-status : status_of (read_result t) ≡ status_of (read result_form_of t)
   unfolding read_result
   read-status = answer-status (read result_form_of t)
 
-  whole : (read_result t).status ≡ Status.Done
-      → read_result t ≡ record { status = Status.Done; result = (read_result t).result }
-  whole e = ap (λ (st : Status). record { status = st; result = (read_result t).result }) e
+  whole : status_of (read_result t) ≡ Ok tt
+      → read_result t ≡ Ok ((result_in (read_result t)))
+  whole e = ap (λ (st : Status). record { status = st; result = (result_in (read_result t)) }) e
 
   -- what is read without fault has none, and is written as it was
-  pub read-checked : (read_result t).status ≡ Status.Done → check_result (read_result t).result ≡ Status.Done
-  read-checked e = (trips.write_read t (read_result t).result (whole e)).1
+  pub read-checked : status_of (read_result t) ≡ Ok tt → check_result (result_in (read_result t)) ≡ Ok tt
+  read-checked e = (trips.write_read t (result_in (read_result t)) (whole e)).1
 
-  pub read_same : (read_result t).status ≡ Status.Done → show_result (read_result t).result ≡ t
-  read_same e = (trips.write_read t (read_result t).result (whole e)).0
+  pub read_same : status_of (read_result t) ≡ Ok tt → show_result (result_in (read_result t)) ≡ t
+  read_same e = (trips.write_read t (result_in (read_result t)) (whole e)).0
 
   pub exactly : (r : Result)
-      → (read_result t ≡ record { status = Status.Done; result = r })
-      ↔ ((show_result r ≡ t) × (check_result r ≡ Status.Done) × (live r ≡ r))
+      → (read_result t ≡ Ok r)
+      ↔ ((show_result r ≡ t) × (check_result r ≡ Ok tt) × (live r ≡ r))
   unfolding read_result
   exactly r = (trips.write_read t r, λ h. ap result_answer ((trips.exactly t r).1 h))
 
   pub first-bad : (f : Fault) (n : ℕ) → length t ≤ text_max
-      → ((read_result t).status ≡ Status.Refused f n) ↔ Refused result_form_of t f n
+      → (status_of (read_result t) ≡ refused f n) ↔ Refused result_form_of t f n
   first-bad f n h =
       let is = refused-exactly result_form_of t f n h in (
         λ e. is.0 (status-refused (read result_form_of t) f n (sym read-status ∙ e)),
@@ -62,10 +63,10 @@ module _ (t : List ℕ) where
       )
 
 pub decided : (a b : List ℕ) (f : Fault) (n : ℕ) → Decides result_form_of a f n → length (a ++ b) ≤ text_max
-    → read_result (a ++ b) ≡ record { status = Status.Refused f n; result = no_result }
+    → read_result (a ++ b) ≡ refused f n
 unfolding read_result
 decided a b f n d h = ap result_answer (decided-text result_form_of a b f n d h)
 
 pub same-order : (r : Result) → Spelled r → length (show_result r) ≤ text_max
-    → (read_result (show_result r)).status ≡ check_result r
+    → status_of (read_result (show_result r)) ≡ check_result r
 same-order r s h = read-status (show_result r) ∙ trips.same-order r s h

@@ -9,7 +9,7 @@ use Rattle.digits.specs.Number.{digits_max}
 use Rattle.text.specs.Lists.{Small}
 use Rattle.text.proofs.Pieces.{Above}
 use Rattle.jobs.specs.declared.Result.{Result}
-use Rattle.reading.specs.Got.{after}
+use Rattle.reading.specs.Results.{after}
 use Rattle.reading.specs.NumberLines.{placed}
 use Rattle.reading.proofs.Told.{after-after}
 use Rattle.reading.proofs.NumberLines.{count-plain, list-plain}

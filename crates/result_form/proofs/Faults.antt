@@ -4,7 +4,7 @@ use mathlib.Core.List.{List}
 use Rattle.faults.specs.declared.Fault.{Fault}
 use Rattle.jobs.specs.declared.Result.{Result}
 use Rattle.jobs.specs.declared.ResultLine.{ResultLine}
-use Rattle.reading.specs.Got.{Blamed}
+use Rattle.reading.specs.Results.{Blamed}
 use Rattle.reading.proofs.Blamed.{blamed-fault, blamed-after}
 use Rattle.lines.proofs.Faults.{OfLine, spelling, number-of-line, visit-of-line, verdict-of-line, steps-of-line}
 use Rattle.lines.proofs.Faults.{any-low-of-line, high-of-line}

@@ -8,7 +8,7 @@ use lib.IntN.{ℤ}
 use Rattle.sizes.specs.Sizes.{n_max}
 use Rattle.faults.specs.declared.Fault.{Fault}
 use Rattle.jobs.specs.declared.Result.{Result}
-use Rattle.reading.specs.Got.{Told}
+use Rattle.reading.specs.Results.{Told}
 use Rattle.reading.specs.Shows.{Kept}
 use Rattle.reading.proofs.Told.{told-fault, told-after, told-passing}
 use Rattle.reading.proofs.NumberLines.{list-line-told}

@@ -21,7 +21,7 @@ use Rattle.writing.specs.Wrote
 use Rattle.writing.proofs.Lines.{count-line-short, list-line-short, end-length, end_none}
 use Rattle.lists.proofs.Tab.{length-tab}
 use Rattle.faults.specs.declared.Fault.{Fault}
-use Rattle.faults.specs.declared.Status.{Status}
+use Rattle.faults.specs.Checked.{Checked}
 use Rattle.jobs.specs.declared.ResultLine.{ResultLine}
 use Rattle.jobs.specs.Lines.{result_number}
 use Rattle.checks.specs.CheckResult.{result_check, result_line_status, check_result}
@@ -30,11 +30,11 @@ use Rattle.lines.specs.Found.{status_of}
 use Rattle.lines.specs.Texts.{verdict_text}
 use Rattle.lines.proofs.Found.{found-fine, status-then, status-last}
 use Rattle.lines.proofs.Checks.{counted-fine}
-use Rattle.result_form.specs.declared.ResultRead.{ResultRead}
 use Rattle.result_form.specs.ResultForm.{result_end, result_form_of, result_answer, read_result}
 use Rattle.result_form.specs.ResultShows.{kinds, result_shows, show_result, Spelled}
 use Rattle.result_form.proofs.Grows.{grows}
 use Rattle.result_form.proofs.Back.{Has, Spelt, law, plain}
+use Rattle.std.specs.Prelude.{Ok}
 
 -- ---- how long the text is
 
@@ -130,12 +130,12 @@ same-order r s h = trips.same-order result_form_of result_shows Has Spelt laws c
     spelt ResultLine.Hi p = s.high
     spelt ResultLine.End p = tt
 
-pub checked-passed : (r : Result) → check_result r ≡ Status.Done → Passed result_shows kinds r
+pub checked-passed : (r : Result) → check_result r ≡ Ok tt → Passed result_shows kinds r
 checked-passed = trips.done-passed result_form_of result_shows Has Spelt laws check_result judged-status
 
 -- "Values to text to values gives the same values in the live places."
-pub read-write : (r : Result) → check_result r ≡ Status.Done
-    → read_result (show_result r) ≡ record { status = Status.Done; result = live result_shows r }
+pub read-write : (r : Result) → check_result r ≡ Ok tt
+    → read_result (show_result r) ≡ Ok (live result_shows r)
 unfolding read_result
 read-write r e = ap result_answer (trips.read-write result_form_of result_shows Has Spelt laws check_result
     judged-status r e)
@@ -144,19 +144,19 @@ read-write r e = ap result_answer (trips.read-write result_form_of result_shows 
 -- that has none and is zero in its dead places
 pub exactly : (t : List ℕ) (r : Result)
     → (read result_form_of t ≡ Answer.done r)
-    ↔ ((show_result r ≡ t) × (check_result r ≡ Status.Done) × (live result_shows r ≡ r))
+    ↔ ((show_result r ≡ t) × (check_result r ≡ Ok tt) × (live result_shows r ≡ r))
 exactly = trips.exactly result_form_of result_shows Has Spelt laws check_result judged-status
 
-answer-done : (a : Answer Fault Result) (r : Result) → result_answer a ≡ record { status = Status.Done; result = r }
+answer-done : (a : Answer Fault Result) (r : Result) → result_answer a ≡ Ok r
     → a ≡ Answer.done r
-answer-done (Answer.done x) r e = ap (λ (y : ResultRead). Answer.done y.result) e
+answer-done (Answer.done x) r e = ap (λ (y : Checked Result). Answer.done y.result) e
 answer-done (Answer.refused f n) r e =
-    let status = ap (λ (y : ResultRead). y.status) e in
+    let status = ap (λ (y : Checked Result). y.status) e in
     let z : ◌≡◌ {A = ℕ} 0 1 = cc in
     absurd (omega arith)
 
 -- what the reader takes, the writer takes, and writes as it stood
-pub write_read : (t : List ℕ) (r : Result) → read_result t ≡ record { status = Status.Done; result = r }
-    → (show_result r ≡ t) × (check_result r ≡ Status.Done) × (live result_shows r ≡ r)
+pub write_read : (t : List ℕ) (r : Result) → read_result t ≡ Ok r
+    → (show_result r ≡ t) × (check_result r ≡ Ok tt) × (live result_shows r ≡ r)
 unfolding read_result
 write_read t r e = (exactly t r).0 (answer-done (read result_form_of t) r e)

@@ -1,19 +1,18 @@
 -- What a result text means: document 01, "The job text and the result text". What each kind of line says stands in
 -- crate lines, its number in crate jobs.
-use Rattle.std.specs.Prelude.{ℕ, List, Bool, true, false, ℤ}
+use Rattle.std.specs.Prelude.{ℕ, List, Bool, true, false, ℤ, Ok}
 use Rattle.sizes.specs.Sizes.{text_max}
 use Rattle.faults.specs.declared.Fault.{Fault}
-use Rattle.faults.specs.declared.Status.{Status}
+use Rattle.faults.specs.Checked.{Found, Checked, refused}
 use Rattle.jobs.specs.Zero.{no_result}
 use Rattle.jobs.specs.Lines.{result_number}
 use Rattle.jobs.specs.declared.Result.{Result}
 use Rattle.jobs.specs.declared.ResultLine.{ResultLine}
 use Rattle.jobs.specs.declared.Verdict.{Verdict}
-use Rattle.reading.specs.Got.{Got, after}
+use Rattle.reading.specs.Results.{after}
 use Rattle.reading.specs.Lines.{Next, Form, Answer, read}
 use Rattle.reading.specs.NumberLines.{Listed}
 use Rattle.lines.specs.Lines.{number_of, visit_of, verdict_of, steps_of, any_low_of, high_of, misspelled}
-use Rattle.result_form.specs.declared.ResultRead.{ResultRead}
 
 -- ---- the lines in their order, and what each leaves
 
@@ -86,7 +85,7 @@ with_high r xs = record {
 abbrev pub leaves : ResultLine → Result → Next ResultLine Result
 leaves k r = record { kind = k; value = r }
 
-unfoldable pub result_says : ResultLine → Result → List ℕ → Got Fault (Next ResultLine Result)
+unfoldable pub result_says : ResultLine → Result → List ℕ → Found (Next ResultLine Result)
 result_says ResultLine.Number v l = after (number_of l) (λ m. leaves ResultLine.Visit (with_number v m))
 result_says ResultLine.Visit v l = after (visit_of l) (λ m. leaves ResultLine.Verdict (with_visit v m))
 result_says ResultLine.Verdict v l = after (verdict_of l) (λ w. leaves ResultLine.Steps (with_verdict v w))
@@ -117,9 +116,9 @@ result_form_of = record {
 }
 
 -- the answer: "everything is zero beside a fault"
-abbrev pub result_answer : Answer Fault Result → ResultRead
-result_answer (Answer.done r) = record { status = Status.Done; result = r }
-result_answer (Answer.refused f n) = record { status = Status.Refused f n; result = no_result }
+abbrev pub result_answer : Answer Fault Result → (Checked Result)
+result_answer (Answer.done r) = Ok r
+result_answer (Answer.refused f n) = refused f n
 
-unfoldable pub read_result : List ℕ → ResultRead
+unfoldable pub read_result : List ℕ → (Checked Result)
 read_result t = result_answer (read result_form_of t)

@@ -1,11 +1,10 @@
 -- What the parts of a result text say.
 use Rattle.std.specs.Prelude.{ℕ, List}
-use Rattle.faults.specs.declared.Status.{Status}
+use Rattle.faults.specs.Checked.{Status, Checked}
 use Rattle.jobs.specs.declared.Result.{Result}
 use Rattle.jobs.specs.declared.ResultLine.{ResultLine}
 use Rattle.jobs.specs.Zero.{no_result}
 use Rattle.line_read.specs.States.{Leads}
-use Rattle.result_form.specs.declared.ResultRead.{ResultRead}
 use Rattle.result_form.specs.ResultForm.{with_number, with_visit, with_verdict, with_steps, with_low, with_high}
 use Rattle.result_form.specs.ResultForm.{result_form_of}
 use Rattle.result_read.specs.declared.NamesAt.{NamesAt}
@@ -29,5 +28,5 @@ pub record ToldFrom (t : List ℕ) (a : ℕ) (r : ToldAt) : Type 0 where
 pub record BoxFrom (t : List ℕ) (a : ℕ) (r : BoxAt) : Type 0 where
   pub leads : (v : Result) → Leads result_form_of t a ResultLine.Lo v r.status ResultLine.End (with_box v r) r.next
 
-abbrev pub refused_with : Status → ResultRead
+abbrev pub refused_with : Status → (Checked Result)
 refused_with st = record { status = st; result = no_result }

@@ -10,13 +10,13 @@ use Rattle.term_checks.proofs.RangeLaws.{all-within}
 use Rattle.checks.proofs.CheckResultLaws.{Sound, sound}
 use Rattle.jobs.specs.declared.Result.{Result}
 use Rattle.jobs.specs.declared.ResultLine.{ResultLine}
-use Rattle.faults.specs.declared.Status.{Status}
 use Rattle.writing.specs.Wrote
 use Rattle.writing.proofs.Lines.{end-length, end_none}
 use Rattle.lines.proofs.Checks.{within-below}
 use Rattle.result_form.specs.ResultShows.{line}
 use Rattle.result_form.proofs.Trips.{result-short}
 use Rattle.result_write.specs.Ready.{Ready}
+use Rattle.std.specs.Prelude.{Ok}
 
 ready : (r : Result) → Sound r → Ready r
 ready r s = record {
@@ -25,7 +25,7 @@ ready r s = record {
   high = within-below r.n r.hi digits_max end_max (omega arith) (all-within r.hi r.n end_max s.high);
 }
 
-pub ready-done : (r : Result) → check_result r ≡ Status.Done → Ready r
+pub ready-done : (r : Result) → check_result r ≡ Ok tt → Ready r
 ready-done r e = ready r (sound r e)
 
 abbrev long : ResultLine → Result → ℕ

@@ -3,7 +3,6 @@
 
 ghost use Rattle.std.specs.Prelude.{◌≡◌, length, leb, ◌≤◌};
 ghost use Rattle.sizes.specs.Sizes.{text_max};
-ghost use Rattle.faults.specs.declared.Status.{Status};
 ghost use Rattle.checks.specs.CheckResult.{check_result};
 ghost use Rattle.writing.specs.Wrote.{Wrote, line};
 ghost use Rattle.faults.specs.Answer.{Leaves};
@@ -62,8 +61,8 @@ fn fits(r: Result, room: usize) -> bool
 
 // The text of a result whose check found nothing, for any buffer.
 pub fn write_ready(r: Result, out: &mut [u8]) -> Written
-    requires { check_result r ≡ Status.Done }
-    ensures { Leaves Status.Done (show_result r) out.old out.new result }
+    requires { check_result r ≡ Ok tt }
+    ensures { Leaves Ok tt (show_result r) out.old out.new result }
 {
     if !fits(r, out.len()) {
         return Written {

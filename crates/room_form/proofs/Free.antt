@@ -7,9 +7,7 @@ use mathlib.Core.List.{List}
 use lib.Dec.{eqb, leb}
 use borrow.Author.Tests.{eqb-true, eq-eqb}
 use Rattle.faults.specs.Checks.{is_bad}
-use Rattle.job_form.specs.declared.JobRead.{JobRead}
 use Rattle.job_form.specs.JobForm.{read_job}
-use Rattle.result_form.specs.declared.ResultRead.{ResultRead}
 use Rattle.result_form.specs.ResultForm.{read_result}
 use Rattle.cells.specs.Cells.{number_at, text_at}
 use Rattle.room_form.specs.declared.Standing.{Standing}
@@ -17,9 +15,10 @@ use Rattle.room_form.specs.Table.{reading_from, reading_most, job_from, job_most
 use Rattle.room_form.specs.Table.{is_visit, held_by, room_of, is_whole}
 use Rattle.room_form.specs.Calls.{is_free, is_taken}
 use Rattle.room_form.proofs.Visited.{Visited, room-visited, visited-room, together, are-together}
+use Rattle.faults.specs.Checked.{Checked}
 
 -- no text makes a slot free
-not_free : (last : ℕ) (j : JobRead) (r : ResultRead) → is_free (held_by last j r).standing ≡ false
+not_free : (last : ℕ) (j : Checked Job) (r : Checked Result) → is_free (held_by last j r).standing ≡ false
 unfolding held_by
 not_free last j r = go (is_bad j.status) (is_bad r.status) (is_visit last j.job r.result)
   where

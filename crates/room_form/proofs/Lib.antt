@@ -1,5 +1,5 @@
 pub mod Lowest
-pub mod Written
+pub mod (Checked ℕ)
 pub mod Whole
 pub mod PutReading
 pub mod Visited

@@ -9,7 +9,7 @@ use lib.Dec.{eqb}
 use borrow.Author.Tests.{lt-ltb, le-ltb, ne_eqb}
 use Rattle.sizes.specs.Sizes.{visit_max}
 use Rattle.faults.specs.declared.Fault.{Fault}
-use Rattle.faults.specs.declared.Status.{Status}
+use Rattle.faults.specs.Checked.{Status, refused, status_of}
 use Rattle.faults.specs.Checks.{is_bad, bad_unless, on_line, and_then}
 use Rattle.faults.proofs.Laws.{not-bad, bad-first}
 use Rattle.checks.proofs.AcceptedLaws.{check_done}
@@ -19,40 +19,41 @@ use Rattle.job_form.proofs.Short.{job-width}
 use Rattle.room_form.specs.declared.Opened.{Opened}
 use Rattle.room_form.specs.Table.{rooms_max, job_most, last_in, whole}
 use Rattle.room_form.specs.Calls.{lowest_free, next_visit, open_status, open_answer, opened}
+use Rattle.std.specs.Prelude.{Ok, Err}
 
 module _ (t text : List ℕ) where
-  pub no_table : whole t ≡ false → open_status t text ≡ Status.Refused Fault.Table 0
+  pub no_table : whole t ≡ false → open_status t text ≡ refused Fault.Table 0
   unfolding bad_unless on_line and_then
   no_table e = rw e refl
 
   module _ (e : whole t ≡ true) where
-    pub no-job : is_bad (read_job text).status ≡ true → open_status t text ≡ (read_job text).status
+    pub no-job : is_bad (status_of (read_job text)) ≡ true → open_status t text ≡ (status_of (read_job text))
     unfolding bad_unless on_line and_then
-    no-job bad = rw e (bad-first (read_job text).status _ bad)
+    no-job bad = rw e (bad-first (status_of (read_job text)) _ bad)
 
-    module _ (right : is_bad (read_job text).status ≡ false) where
-      pub is-full : rooms_max ≤ lowest_free t → open_status t text ≡ Status.Refused Fault.Full 0
+    module _ (right : is_bad (status_of (read_job text)) ≡ false) where
+      pub is-full : rooms_max ≤ lowest_free t → open_status t text ≡ refused Fault.Full 0
       unfolding bad_unless on_line and_then
-      is-full h = rw (e, not-bad (read_job text).status right, le-ltb (lowest_free t) rooms_max h) refl
+      is-full h = rw (e, not-bad (status_of (read_job text)) right, le-ltb (lowest_free t) rooms_max h) refl
 
       module _ (room : lowest_free t < rooms_max) where
-        pub no-visit : visit_max ≤ last_in t → open_status t text ≡ Status.Refused Fault.Visits 0
+        pub no-visit : visit_max ≤ last_in t → open_status t text ≡ refused Fault.Visits 0
         unfolding bad_unless on_line and_then
         no-visit h =
             rw (
               e,
-              not-bad (read_job text).status right,
+              not-bad (status_of (read_job text)) right,
               lt-ltb (lowest_free t) rooms_max room,
               le-ltb (last_in t) visit_max h,
             )
             refl
 
-        pub is-opened : last_in t < visit_max → open_status t text ≡ Status.Done
+        pub is-opened : last_in t < visit_max → open_status t text ≡ Ok tt
         unfolding bad_unless on_line and_then
         is-opened h =
             rw (
               e,
-              not-bad (read_job text).status right,
+              not-bad (status_of (read_job text)) right,
               lt-ltb (lowest_free t) rooms_max room,
               lt-ltb (last_in t) visit_max h,
             )
@@ -67,13 +68,13 @@ module _ (t text : List ℕ) where
     where
       go : (s : Status) → open_status t text ≡ s → is_bad s ≡ true → a.status ≡ s
           → (a ≡ open_answer (open_status t text) (lowest_free t) (next_visit t)) × (t ≡ opened t text)
-      go Status.Done q b w = absurd (true≢false (sym b))
-      go (Status.Refused f line) q b w = rw q (rw (w, is.1.0, is.1.1) refl, refl)
+      go (Ok tt) q b w = absurd (true≢false (sym b))
+      go (Err r) q b w = rw q (rw (w, is.1.0, is.1.1) refl, refl)
 
 -- a right job text has room in its slot
-pub job-short : (text : List ℕ) → (read_job text).status ≡ Status.Done → length text ≤ job_most
+pub job-short : (text : List ℕ) → status_of (read_job text) ≡ Ok tt → length text ≤ job_most
 job-short text e =
-    let wide = job-width (read_job text).job (check_done (read_job text).job (read-checked text e)) in
+    let wide = job-width (job_in (read_job text)) (check_done (job_in (read_job text)) (read-checked text e)) in
     omega (arith, wide, ap length (sym (read_same text e)))
 
 -- "not reused before the next" clearing: no visit that was handed out before is the next one

@@ -6,8 +6,7 @@ use mathlib.Core.List.{List}
 use lib.ListN.{length}
 use lib.Seq.{sets}
 use lib.Dec.{ltb}
-use Rattle.faults.specs.declared.Status.{Status}
-use Rattle.faults.specs.declared.Written.{Written}
+use Rattle.faults.specs.Checked.{Written}
 use Rattle.faults.specs.Checks.{is_bad}
 use Rattle.faults.specs.Answer.{Leaves}
 use Rattle.faults.proofs.Laws.{not-bad}
@@ -16,6 +15,7 @@ use Rattle.cells.specs.Cells.{cell}
 use Rattle.room_form.specs.Table.{slot_from, room_at}
 use Rattle.room_form.specs.Calls.{held_status, after_step, finished, stepped}
 use Rattle.room_form.proofs.Written.{room-told}
+use Rattle.std.specs.Prelude.{Ok}
 
 module _ (t : List ℕ) (slot visit : ℕ) where
   pub step-refused : (space : ℕ) → is_bad (held_status t slot visit) ≡ true → t ≡ stepped t slot visit space
@@ -23,7 +23,7 @@ module _ (t : List ℕ) (slot visit : ℕ) where
   step-refused space bad = rw bad refl
 
   module _ (good : is_bad (held_status t slot visit) ≡ false) {old new : List ℕ} {a : Written}
-      (w : Leaves Status.Done (show_result (after_step t slot)) old new a) {b : Bool} (test : b ≡ is_bad a.status)
+      (w : Leaves (Ok tt) (show_result (after_step t slot)) old new a) {b : Bool} (test : b ≡ is_bad a.status)
     where
       pub told : Leaves (held_status t slot visit) (show_result (after_step t slot)) old new a
       told = rw (not-bad (held_status t slot visit) good) w

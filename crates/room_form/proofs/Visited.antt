@@ -6,15 +6,13 @@ use mathlib.Core.List.{List}
 use lib.Dec.{eqb, leb, ltb}
 use borrow.Author.Tests.{eqb-true, eqb-false, eq-eqb, ne_eqb, leb-true, le-leb, ltb-true}
 use Rattle.faults.specs.declared.Fault.{Fault}
-use Rattle.faults.specs.declared.Status.{Status}
+use Rattle.faults.specs.Checked.{Status, Checked, refused}
 use Rattle.faults.specs.Checks.{is_bad, bad_unless, on_line, and_then}
 use Rattle.faults.proofs.Laws.{not-bad, unless-fine, fine-line, done_first, done_next}
 use Rattle.jobs.specs.declared.Job.{Job}
 use Rattle.jobs.specs.declared.Result.{Result}
-use Rattle.job_form.specs.declared.JobRead.{JobRead}
 use Rattle.job_form.specs.JobForm.{read_job}
 use Rattle.job_form.proofs.Answers as job
-use Rattle.result_form.specs.declared.ResultRead.{ResultRead}
 use Rattle.result_form.specs.ResultForm.{read_result}
 use Rattle.result_form.specs.ResultShows.{show_result, live}
 use Rattle.result_form.proofs.Answers as result
@@ -25,32 +23,33 @@ use Rattle.room_form.specs.Table.{rooms_max, reading_from, reading_most, job_fro
 use Rattle.room_form.specs.Table.{taken_room, is_visit, held_by, room_of, last_in, slot_in, room_at, whole}
 use Rattle.room_form.specs.Calls.{table_status, is_taken, held_status}
 use Rattle.term_checks.proofs.RangeLaws.{and_left, and_right}
+use Rattle.std.specs.Prelude.{Ok}
 
 -- slot s holds a visit of job j with reading r, where the last visit number is `last`
 pub record Visited (last : ℕ) (s : List ℕ) (j : Job) (r : Result) : Type 0 where
   pub some : number_at s job_from ≡ 0 → ⊥
   pub reading-fits : number_at s reading_from ≤ reading_most
   pub job-fits : number_at s job_from ≤ job_most
-  pub job : read_job (text_at s job_from) ≡ record { status = Status.Done; job = j }
-  pub reading : read_result (text_at s reading_from) ≡ record { status = Status.Done; result = r }
+  pub job : read_job (text_at s job_from) ≡ Ok j
+  pub reading : read_result (text_at s reading_from) ≡ Ok r
   pub visit : is_visit last j r ≡ true
 
 -- ---- from the room to what is known
 
-job-whole : (x : JobRead) → is_bad x.status ≡ false → x ≡ record { status = Status.Done; job = x.job }
+job-whole : (x : Checked Job) → is_bad x.status ≡ false → x ≡ Ok x.job
 job-whole x e = ap (λ (st : Status). record { status = st; job = x.job }) (not-bad x.status e)
 
-result-whole : (x : ResultRead) → is_bad x.status ≡ false → x ≡ record { status = Status.Done; result = x.result }
+result-whole : (x : Checked Result) → is_bad x.status ≡ false → x ≡ Ok x.result
 result-whole x e = ap (λ (st : Status). record { status = st; result = x.result }) (not-bad x.status e)
 
 -- both texts, where they make a visit
-record Both (last : ℕ) (j : JobRead) (r : ResultRead) (room : Room) : Type 0 where
+record Both (last : ℕ) (j : Checked Job) (r : Checked Result) (room : Room) : Type 0 where
   job-right : is_bad j.status ≡ false
   result-right : is_bad r.status ≡ false
   together : is_visit last j.job r.result ≡ true
   is : room ≡ taken_room j.job r.result
 
-by-texts : (last : ℕ) (j : JobRead) (r : ResultRead) → is_taken (held_by last j r).standing ≡ true
+by-texts : (last : ℕ) (j : Checked Job) (r : Checked Result) → is_taken (held_by last j r).standing ≡ true
     → Both last j r (held_by last j r)
 unfolding held_by
 by-texts last j r e = go (is_bad j.status) (is_bad r.status) (is_visit last j.job r.result) refl refl refl e
@@ -72,10 +71,10 @@ room-visited last s e =
     (leb (number_at s job_from) job_most)
     refl refl refl e
   where
-    j : JobRead
+    j : (Checked Job)
     j = read_job (text_at s job_from)
 
-    r : ResultRead
+    r : (Checked Result)
     r = read_result (text_at s reading_from)
 
     found : Room
@@ -173,7 +172,7 @@ module _ {last : ℕ} {s : List ℕ} {j : Job} {r : Result} (v : Visited last s 
 
 -- "first 16", whatever is shown
 pub held-no-table : (t : List ℕ) (slot visit : ℕ) → whole t ≡ false
-    → held_status t slot visit ≡ Status.Refused Fault.Table 0
+    → held_status t slot visit ≡ refused Fault.Table 0
 unfolding bad_unless on_line and_then
 held-no-table t slot visit e = rw e refl
 

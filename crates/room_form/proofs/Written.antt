@@ -6,25 +6,25 @@ use mathlib.Core.List.{List, ◌++◌}
 use lib.ListN.{length, drop}
 use lib.Dec.{ltb}
 use Rattle.faults.specs.declared.Fault.{Fault}
-use Rattle.faults.specs.declared.Status.{Status}
-use Rattle.faults.specs.declared.Written.{Written}
+use Rattle.faults.specs.Checked.{Status, Written, Checked}
 use Rattle.faults.specs.Checks.{is_bad}
 use Rattle.faults.specs.Answer.{refused, answer_of, left_in, Leaves}
+use Rattle.std.specs.Prelude.{Ok, Err}
 
-module _ {t old new : List ℕ} {a : Written} (w : Leaves Status.Done t old new a) where
+module _ {t old new : List ℕ} {a : Written} (w : Leaves (Ok tt) t old new a) where
   -- it has no fault exactly where there is room
   pub room-told : is_bad a.status ≡ ltb (length old) (length t)
   unfolding answer_of
-  room-told = ap (λ (x : Written). is_bad x.status) w.answer ∙ by (ltb (length old) (length t))
+  room-told = ap (λ (x : Checked ℕ). is_bad x.status) w.answer ∙ by (ltb (length old) (length t))
     where
       by : (b : Bool)
-          → is_bad (cond b (refused (Status.Refused Fault.ShortBuffer 0))
-          (record { status = Status.Done; len = length t })).status ≡ b
+          → is_bad (cond b (refused Fault.ShortBuffer 0)
+          (Ok (length t))).status ≡ b
       by true = refl
       by false = refl
 
   module _ (few : ltb (length old) (length t) ≡ false) where
-    pub done-told : a ≡ record { status = Status.Done; len = length t }
+    pub done-told : a ≡ Ok (length t)
     unfolding answer_of
     done-told = rw few at w.answer
 
@@ -43,6 +43,6 @@ unfolding answer_of left_in
 all-refused t old {st} {found} {a} bad e is = go st bad (is.0 ∙ e)
   where
     go : (s : Status) → is_bad s ≡ true → a.status ≡ s → Leaves s t old old a
-    go Status.Done b q = absurd (true≢false (sym b))
-    go (Status.Refused f line) b q =
+    go (Ok tt) b q = absurd (true≢false (sym b))
+    go (Err r) b q =
         record { answer = ap₂ (λ (s : Status) (n : ℕ). record { status = s; len = n }) q is.1; left = refl }

@@ -1,9 +1,9 @@
 -- The five calls: what each answers, and every byte of the table after it. Document 02, P12, "Refusals".
-use Rattle.std.specs.Prelude.{ℕ, zero, suc, ◌+◌, Bool, true, false, cond, ◌&&◌, List, length, eqb, leb, ltb}
+use Rattle.std.specs.Prelude.{ℕ, zero, suc, ◌+◌, Bool, true, false, cond, ◌&&◌, List, length, eqb, leb, ltb, Ok, Err}
 use Rattle.std.proofs.lemmas.List.Edits.{sets}
 use Rattle.sizes.specs.Sizes.{visit_max}
 use Rattle.faults.specs.declared.Fault.{Fault}
-use Rattle.faults.specs.declared.Status.{Status}
+use Rattle.faults.specs.Checked.{Status, status_of}
 use Rattle.faults.specs.Checks.{is_bad, bad_unless, on_line, and_then}
 use Rattle.jobs.specs.declared.Result.{Result}
 use Rattle.job_form.specs.JobForm.{read_job}
@@ -51,7 +51,7 @@ lowest_free t = first_from rooms_max (λ k. is_free (room_at t k).standing) 0
 abbrev pub open_status : List ℕ → List ℕ → Status
 open_status t text =
     and_then (table_status t)
-    (and_then (read_job text).status
+    (and_then (status_of (read_job text))
     (and_then (unless (ltb (lowest_free t) rooms_max) Fault.Full) (unless (ltb (last_in t) visit_max) Fault.Visits)))
 
 -- "hands out a visit number, 1 upward from a clearing"
@@ -59,8 +59,8 @@ abbrev pub next_visit : List ℕ → ℕ
 next_visit t = last_in t + 1
 
 unfoldable pub open_answer : Status → ℕ → ℕ → Opened
-open_answer Status.Done slot visit = record { status = Status.Done; slot = slot; visit = visit }
-open_answer (Status.Refused f line) slot visit = record { status = Status.Refused f line; slot = 0; visit = 0 }
+open_answer (Ok tt) slot visit = record { status = Ok tt; slot = slot; visit = visit }
+open_answer (Err r) slot visit = record { status = Err r; slot = 0; visit = 0 }
 
 -- the visit's number, its reading and its job text
 abbrev pub with_visitor : List ℕ → ℕ → ℕ → List ℕ → List ℕ → List ℕ
@@ -70,7 +70,7 @@ with_visitor t slot visit reading text =
 unfoldable pub opened : List ℕ → List ℕ → List ℕ
 opened t text =
     cond (is_bad (open_status t text)) t
-    (with_visitor t (lowest_free t) (next_visit t) (show_result (opened_as (next_visit t) (read_job text).job)) text)
+    (with_visitor t (lowest_free t) (next_visit t) (show_result (opened_as (next_visit t) (job_in (read_job text)))) text)
 
 -- ---- the other calls: "15 for a slot or visit not open, next after 16"
 

@@ -6,13 +6,12 @@ use Rattle.faults.specs.Checks.{is_bad}
 use Rattle.jobs.specs.declared.Job.{Job}
 use Rattle.jobs.specs.declared.Result.{Result}
 use Rattle.jobs.specs.Zero.{no_job, no_result}
-use Rattle.job_form.specs.declared.JobRead.{JobRead}
 use Rattle.job_form.specs.JobForm.{read_job}
-use Rattle.result_form.specs.declared.ResultRead.{ResultRead}
 use Rattle.result_form.specs.ResultForm.{read_result}
 use Rattle.cells.specs.Cells.{part, number_at, text_at}
 use Rattle.room_form.specs.declared.Standing.{Standing}
 use Rattle.room_form.specs.declared.Room.{Room}
+use Rattle.faults.specs.Checked.{Checked}
 
 -- "Eight rooms"
 abbrev pub rooms_max : ℕ
@@ -70,7 +69,7 @@ is_visit last j r =
     && (eqb r.n j.head.n && ((leb 1 r.visit && leb r.visit last) && leb r.steps j.steps))
 
 -- "the job text is a right job text and the reading a right result text"
-unfoldable pub held_by : ℕ → JobRead → ResultRead → Room
+unfoldable pub held_by : ℕ → (Checked Job) → (Checked Result) → Room
 held_by last j r =
     cond (is_bad j.status) broken_room
     (cond (is_bad r.status) broken_room

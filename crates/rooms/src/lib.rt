@@ -5,7 +5,6 @@ mod table;
 
 ghost use Rattle.std.specs.Prelude.{◌≡◌, ◌+◌, ◌≤◌, ◌<◌, length};
 ghost use Rattle.std.proofs.lemmas.List.Edits.{sets};
-ghost use Rattle.faults.specs.declared.Status.{Status};
 ghost use Rattle.faults.specs.Answer.{Leaves};
 ghost use Rattle.checks.specs.CheckResult.{check_result};
 ghost use Rattle.result_form.specs.ResultShows.{show_result};
@@ -87,7 +86,7 @@ fn not_opened(status: Status) -> Opened
 
 // A reading and its length, from this place on.
 fn put_reading(table: &mut [u8], at: usize, r: Result) -> usize
-    requires { (at + 4 + reading_most ≤ length table.old) × ((at ≤ table_size) × (check_result r ≡ Status.Done)) }
+    requires { (at + 4 + reading_most ≤ length table.old) × ((at ≤ table_size) × (check_result r ≡ Ok tt)) }
     ensures { table.new ≡ sets table.old at (cell (show_result r)) }
 {
     let from = at + 4;
@@ -98,7 +97,7 @@ fn put_reading(table: &mut [u8], at: usize, r: Result) -> usize
 // A visitor's number, reading and job text in the table.
 fn put_visitor(table: &mut [u8], slot: usize, visit: u64, r: Result, text: &[u8]) -> usize
     requires table_size_in_bounds { (table_size ≤ length table.old) × (slot < rooms_max) }
-    requires r_value { (check_result r ≡ Status.Done) × (length text.now ≤ job_most) }
+    requires r_value { (check_result r ≡ Ok tt) × (length text.now ≤ job_most) }
     ensures { table.new ≡ with_visitor table.old slot visit (show_result r)
         text.now }
 {

@@ -16,7 +16,7 @@ use Rattle.jobs.specs.declared.Equation.{Equation}
 use Rattle.jobs.specs.declared.Job.{Job}
 use Rattle.jobs.specs.declared.Result.{Result}
 use Rattle.faults.specs.declared.Fault.{Fault}
-use Rattle.faults.specs.declared.Status.{Status}
+use Rattle.faults.specs.Checked.{refused}
 use Rattle.step.specs.declared.Decision.{Decision}
 use Rattle.step.specs.Step.{image_box}
 use Rattle.step.specs.Decide.{decide_of, step_of}
@@ -25,6 +25,7 @@ use Rattle.step.proofs.Given.{image-made}
 use Rattle.run.specs.declared.Outcome.{Outcome}
 use Rattle.run.specs.Run.{settle, run_of}
 use Rattle.run.specs.Job.{run_from, outcome_of, result_of, run_job}
+use Rattle.std.specs.Prelude.{Ok}
 
 -- what makes the same image of every box runs alike
 module _ (n : ℕ) (q r : ℕ → Equation) (C D : ℕ → ℕ → ℤ)
@@ -39,7 +40,7 @@ module _ (n : ℕ) (q r : ℕ → Equation) (C D : ℕ → ℕ → ℤ)
       ap₂ (λ (d : Decision) (rest : List Interval → Outcome). settle d.what d.sides (done + 1) rest)
       (step-cong x) (fun_ext (run-cong allowance (done + 1)))
 
-pub run-made : (j : Job) → check_job j ≡ Status.Done → {eqs : List Equation} {c : List (List ℤ)} → eqs ≡ equations_of j
+pub run-made : (j : Job) → check_job j ≡ Ok tt → {eqs : List Equation} {c : List (List ℤ)} → eqs ≡ equations_of j
     → c ≡ tab n_max j.head.n (replicate n_max (pos 0)) (row_at j.inv) → (x : List Interval) (allowance : ℕ)
     → run_of j.head.n (equation_at eqs) (entry_at c) allowance 0 x ≡ run_from j x allowance
 run-made j done made-eqs made-c x allowance =
@@ -47,12 +48,12 @@ run-made j done made-eqs made-c x allowance =
 
 -- the two answers of a run
 module _ (j : Job) {r : Result} where
-  pub answer-done : check_job j ≡ Status.Done → r ≡ result_of j (outcome_of j)
-      → record { status = Status.Done; result = r } ≡ run_job j
+  pub answer-done : check_job j ≡ Ok tt → r ≡ result_of j (outcome_of j)
+      → Ok r ≡ run_job j
   unfolding run_job
   answer-done e p = rw (e, p)
 
-  pub answer-refused : (f : Fault) (line : ℕ) → check_job j ≡ Status.Refused f line → r ≡ no_result
-      → record { status = Status.Refused f line; result = r } ≡ run_job j
+  pub answer-refused : (f : Fault) (line : ℕ) → check_job j ≡ refused f line → r ≡ no_result
+      → record { status = refused f line; result = r } ≡ run_job j
   unfolding run_job
   answer-refused f line e p = rw (e, p)

@@ -1,12 +1,12 @@
 -- Document 01, the run of a job: its values are checked first, and an accepted job answers what its steps give.
-use Rattle.std.specs.Prelude.{List, ℕ}
+use Rattle.std.specs.Prelude.{List, ℕ, Ok, Err}
 use Rattle.checks.specs.Checks.{check_job}
 use Rattle.systems.specs.Kinds.{equation_of}
 use Rattle.jobs.specs.Zero.{no_result}
 use Rattle.intervals.specs.declared.Interval.{Interval}
 use Rattle.jobs.specs.declared.Job.{Job}
 use Rattle.jobs.specs.declared.Result.{Result}
-use Rattle.faults.specs.declared.Status.{Status}
+use Rattle.faults.specs.Checked.{Status}
 use Rattle.step.specs.Values.{low_ends, high_ends, start_of, inverse_of}
 use Rattle.run.specs.declared.Outcome.{Outcome}
 use Rattle.run.specs.declared.Answer.{Answer}
@@ -33,8 +33,8 @@ result_of j o = record {
 }
 
 abbrev pub answer_by : Status → Job → Answer
-answer_by Status.Done j = record { status = Status.Done; result = result_of j (outcome_of j) }
-answer_by (Status.Refused f line) j = record { status = Status.Refused f line; result = no_result }
+answer_by (Ok tt) j = Ok (result_of j (outcome_of j))
+answer_by (Err r) j = record { status = Err r; result = no_result }
 
 -- "Values handed over without text get the same checks in the same line order."
 unfoldable pub run_job : Job → Answer

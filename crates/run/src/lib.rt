@@ -6,7 +6,6 @@ ghost use Rattle.sizes.specs.Sizes.{n_max};
 ghost use Rattle.intervals.specs.Places.{entry_at, side_at};
 ghost use Rattle.jobs.specs.Places.{equation_at};
 ghost use Rattle.checks.specs.Checks.{check_job};
-ghost use Rattle.faults.specs.declared.Status.{Status};
 ghost use Rattle.slopes.specs.Ranges.{BoxIn};
 ghost use Rattle.step.specs.Ranges.{StepIn};
 ghost use Rattle.run.specs.Run.{outcome, run_of};
@@ -102,7 +101,7 @@ pub fn run_system(
 
 // At most `allowance` steps of a job whose check found nothing, from any box in range on.
 pub fn run_from(j: Job, x: [Interval; N], allowance: u64) -> Outcome
-    requires j_value { check_job j ≡ Status.Done }
+    requires j_value { check_job j ≡ Ok tt }
     requires box_in { BoxIn j.head.n (side_at x) }
     ensures { result ≡ run_from j x allowance }
 {
@@ -136,7 +135,7 @@ pub fn result_of(j: Job, o: Outcome) -> Result
 
 // The run of a job whose check found nothing.
 pub fn accepted(j: Job) -> Result
-    requires { check_job j ≡ Status.Done }
+    requires { check_job j ≡ Ok tt }
     ensures { result ≡ result_of j (outcome_of j) }
 {
     let ends = j.ends;

@@ -17,7 +17,7 @@ use Rattle.term_checks.proofs.RangeLaws.{within_all, ordered-all}
 use Rattle.checks.proofs.CheckResultLaws.{Sound, unfaulted}
 use Rattle.intervals.specs.declared.Interval.{Interval}
 use Rattle.jobs.specs.declared.Job.{Job}
-use Rattle.faults.specs.declared.Status.{Status}
+use Rattle.faults.specs.Checked.{status_of}
 use Rattle.systems.specs.Kinds.{equation_of}
 use Rattle.slopes.specs.Ranges.{BoxIn}
 use Rattle.step.specs.Values.{start_of, inverse_of, low_ends, high_ends}
@@ -26,8 +26,9 @@ use Rattle.run.specs.declared.Outcome.{Outcome}
 use Rattle.run.specs.Job.{run_from, outcome_of, result_of, run_job}
 use Rattle.runs.proofs.Runs.{run-count}
 use Rattle.runs.proofs.Left.{left_in}
+use Rattle.std.specs.Prelude.{Ok}
 
-module _ (j : Job) (checked : check_job j ≡ Status.Done) where
+module _ (j : Job) (checked : check_job j ≡ Ok tt) where
   accepted : Accepted j
   accepted = check_done j checked
 
@@ -58,18 +59,18 @@ module _ (j : Job) (checked : check_job j ≡ Status.Done) where
             (λ k l. rw (low-at k l, high-at k l) ((left_in j accepted x box a).each k l).order);
       }
 
-      pub from-checked : check_result (result_of j o) ≡ Status.Done
+      pub from-checked : check_result (result_of j o) ≡ Ok tt
       from-checked = unfaulted (result_of j o) from-sound
 
   -- ---- from its own box, with its own allowance
-  pub result-checked : check_result (result_of j (outcome_of j)) ≡ Status.Done
+  pub result-checked : check_result (result_of j (outcome_of j)) ≡ Ok tt
   unfolding outcome_of
   result-checked = from-checked (start_of j) (start-in accepted) j.steps accepted.steps
 
-  pub run-done : (run_job j).status ≡ Status.Done
+  pub run-done : status_of (run_job j) ≡ Ok tt
   unfolding run_job
   run-done = rw checked refl
 
-  pub run-checked : check_result (run_job j).result ≡ Status.Done
+  pub run-checked : check_result (result_in (run_job j)) ≡ Ok tt
   unfolding run_job
   run-checked = rw checked result-checked

@@ -10,7 +10,6 @@ use lib.IntN.{ℤ}
 use borrow.Author.Tests.{lt-ltb, le-ltb, eq-eqb, ne_eqb}
 use Rattle.digits.specs.Bytes.{line_feed}
 use Rattle.digits.specs.Number.{read_number}
-use Rattle.digits.specs.declared.Number.{Number}
 use Rattle.digits.proofs.Cases.{either}
 use Rattle.text.specs.Keys.{starts_with, same_bytes, body_of}
 use Rattle.text.specs.Counts.{in_count}
@@ -22,6 +21,7 @@ use Rattle.scan.proofs.Parts.{part_length}
 use Rattle.scan.proofs.Tests.{at-yes, at-no, not-ended, is-ended}
 use Rattle.scan.proofs.Keyed.{key-long, no_key, no_body, has_key, same_end, body_at}
 use Rattle.scan.proofs.Listing.{empty-bad, number-here, number-other}
+use Rattle.std.specs.Prelude.{Some, None}
 
 -- the LF at m ends the line, where none stands before it
 pub ends_at : (t : List ℕ) (a m : ℕ) → a ≤ m → ((k : ℕ) → a ≤ k → k < m → line_feed < get_or t k 0)
@@ -47,7 +47,7 @@ module _ (t : List ℕ) (a : ℕ) (h : a ≤ length t) (v : ℤ) (next : ℕ) (n
   number-end : is_at t next line_feed ≡ true → next ≡ line_end t a
   number-end z = ends_at t a next n.after (λ k x l. omega (arith, n.bytes k x l)) z
 
-  number-line : (next ≡ a → ⊥) → is_at t next line_feed ≡ true → number_of [] t a ≡ Number.Is v
+  number-line : (next ≡ a → ⊥) → is_at t next line_feed ≡ true → number_of [] t a ≡ Some v
   unfolding body_of starts_with
   number-line o z =
       let w = number-end z in
@@ -55,7 +55,7 @@ module _ (t : List ℕ) (a : ℕ) (h : a ≤ length t) (v : ℤ) (next : ℕ) (n
       rw (lt-ltb (line_end t a) (length t) (omega (arith, (at-yes t next line_feed z).0)), ← w)
       (number-here t a v next n (either a next (λ g. g) (λ g. absurd (o (omega (arith, n.after))))) (rw w s))
 
-  number-none : (a < next → is_at t next line_feed ≡ false) → number_of [] t a ≡ Number.Bad
+  number-none : (a < next → is_at t next line_feed ≡ false) → number_of [] t a ≡ None
   unfolding body_of starts_with
   number-none o =
       let p = line-end t a h in
@@ -67,10 +67,10 @@ module _ (t : List ℕ) (a : ℕ) (h : a ≤ length t) (v : ℤ) (next : ℕ) (n
       (λ l. rw (le-ltb (line_end t a) (length t) l))
 
 module _ (t key : List ℕ) (from : ℕ) (h : from ≤ length t) where
-  no_number : starts_with key (drop from t) ≡ false → number_of key t from ≡ Number.Bad
+  no_number : starts_with key (drop from t) ≡ false → number_of key t from ≡ None
   no_number z = rw (no_body t key from h z, empty-bad) (go (ltb (line_end t from) (length t)))
     where
-      go : (b : Bool) → cond b Number.Bad Number.Bad ≡ Number.Bad
+      go : (b : Bool) → cond b None None ≡ None
       go true = refl
       go false = refl
 

@@ -7,7 +7,6 @@ use mathlib.Core.Bool.{true, false}
 use lib.ListN.{length, take, drop, set, replicate, length-set}
 use lib.IntN.{ℤ, pos}
 use borrow.Author.Tests.{eq-eqb, ne_eqb}
-use Rattle.digits.specs.declared.Number.{Number}
 use Rattle.digits.specs.Bytes.{line_feed, comma}
 use Rattle.digits.specs.Number.{read_number}
 use Rattle.digits.proofs.Cases.{either, same_or}
@@ -26,6 +25,7 @@ use Rattle.scan.proofs.Parts.{part_none}
 use Rattle.scan.proofs.Tests.{not-ended, is-ended}
 use Rattle.scan.proofs.Fields.{Steps, OnlyField, Onward, next_field, last-field, no_field, no-mark}
 use Rattle.scan.proofs.Keyed.{no_body, body_at, same_end}
+use Rattle.std.specs.Prelude.{Some, None, Option}
 
 -- ---- a number is a field
 
@@ -33,30 +33,30 @@ pub stuck : (l : Numbers) (f : List ℕ) → l.ok ≡ false → (add_field l f).
 unfolding add_field add_read put_number
 stuck l f e = go (read_number f)
   where
-    go : (n : Number) → (add_read l n).ok ≡ false
-    go (Number.Is v) = e
-    go Number.Bad = refl
+    go : (n : Option ℤ) → (add_read l n).ok ≡ false
+    go (Some v) = e
+    go None = refl
 
 abbrev numbers : Steps Numbers
 numbers = record { step = add_field; ok = λ l. l.ok; stuck = stuck }
 
-pub empty-bad : read_number [] ≡ Number.Bad
+pub empty-bad : read_number [] ≡ None
 unfolding read_number
 empty-bad = refl
 
-bad-field : (l : Numbers) (f : List ℕ) → read_number f ≡ Number.Bad → (add_field l f).ok ≡ false
+bad-field : (l : Numbers) (f : List ℕ) → read_number f ≡ None → (add_field l f).ok ≡ false
 unfolding add_field add_read
 bad-field l f z = rw z
 
-good-field : (l : Numbers) (f : List ℕ) (v : ℤ) → read_number f ≡ Number.Is v → add_field l f ≡ put_number l v
+good-field : (l : Numbers) (f : List ℕ) (v : ℤ) → read_number f ≡ Some v → add_field l f ≡ put_number l v
 unfolding add_field add_read
 good-field l f v z = rw z
 
 module _ (t : List ℕ) (a : ℕ) (v : ℤ) (next : ℕ) (n : OnlyNumber t a v next) where
-  pub number-here : a < next → Stops t next → read_number (part t a next) ≡ Number.Is v
+  pub number-here : a < next → Stops t next → read_number (part t a next) ≡ Some v
   number-here g s = rw (eq-eqb next next refl) at (n.reads next g s)
 
-  pub number-other : (f : ℕ) → a ≤ f → Stops t f → (a < next → f ≡ next → ⊥) → read_number (part t a f) ≡ Number.Bad
+  pub number-other : (f : ℕ) → a ≤ f → Stops t f → (a < next → f ≡ next → ⊥) → read_number (part t a f) ≡ None
   number-other f p s o =
       either a f
       (λ g. n.reads f g s ∙ rw (ne_eqb f next (λ z. o (omega (arith, z)) z)))
@@ -87,10 +87,10 @@ cut-add : (k : ℕ) (l : Numbers) (f : List ℕ) → cut_to k (add_field l f) �
 unfolding add_field add_read put_number
 cut-add k l f = go (read_number f)
   where
-    go : (n : Number) → cut_to k (add_read l n) ≡ add_read (cut_to k l) n
-    go (Number.Is v) = ap (λ (x : List ℤ). record { ok = l.ok; count = l.count + 1; vals = x })
+    go : (n : Option ℤ) → cut_to k (add_read l n) ≡ add_read (cut_to k l) n
+    go (Some v) = ap (λ (x : List ℤ). record { ok = l.ok; count = l.count + 1; vals = x })
         (take-set k l.count l.vals v)
-    go Number.Bad = refl
+    go None = refl
 
 cut-fed : (k : ℕ) (c : Cut Numbers) (bs : List ℕ)
     → closed add_field (feeds add_field comma (record { st = cut_to k c.st; held = c.held }) bs) ≡ cut_to k

@@ -9,21 +9,21 @@ use mathlib.Core.Bool.{Bool, true, false, cond}
 use lib.ListN.{length, get_or}
 use lib.Dec.{eqb, ltb}
 use borrow.Author.Tests.{lt-ltb, le-ltb, eq-eqb, ne_eqb}
-use Rattle.digits.specs.declared.Magnitude.{Magnitude}
 use Rattle.digits.specs.Bytes.{digit0, digit9}
 use Rattle.digits.specs.Number.{digits_max, digits_from, read_magnitude}
 use Rattle.digits.proofs.Cases.{either, same_or}
 use Rattle.reading.specs.Places.{part}
 use Rattle.scan.specs.Fields.{Stops, OnlyMagnitude}
 use Rattle.scan.proofs.Parts.{part_length, part_none, part-cons}
+use Rattle.std.specs.Prelude.{Some, None}
 
-cond-bad : (t : Bool) → cond t Magnitude.Bad Magnitude.Bad ≡ Magnitude.Bad
+cond-bad : (t : Bool) → cond t None None ≡ None
 cond-bad true = refl
 cond-bad false = refl
 
 -- ---- one field
 
-other-first : (b : ℕ) (bs : List ℕ) → (digit0 ≤ b → b ≤ digit9 → ⊥) → (v : ℕ) → digits_from v (b ∷ bs) ≡ Magnitude.Bad
+other-first : (b : ℕ) (bs : List ℕ) → (digit0 ≤ b → b ≤ digit9 → ⊥) → (v : ℕ) → digits_from v (b ∷ bs) ≡ None
 unfolding digits_from
 other-first b bs n v =
     either b digit0
@@ -35,16 +35,16 @@ digit-first : (b : ℕ) (bs : List ℕ) → digit0 ≤ b → b ≤ digit9 → (v
 unfolding digits_from
 digit-first b bs p q v = rw (le-ltb b digit0 p, le-ltb digit9 b q)
 
-ended : (v : ℕ) → digits_from v [] ≡ Magnitude.Is v
+ended : (v : ℕ) → digits_from v [] ≡ Some v
 unfolding digits_from
 ended v = refl
 
-long-bad : (l : List ℕ) → digits_max < length l → read_magnitude l ≡ Magnitude.Bad
+long-bad : (l : List ℕ) → digits_max < length l → read_magnitude l ≡ None
 unfolding read_magnitude
 long-bad l h = rw (ne_eqb (length l) 0 (omega arith), lt-ltb digits_max (length l) h)
 
-digits-bad : (l : List ℕ) → (get_or l 0 0 ≡ digit0 → ⊥) → digits_from 0 l ≡ Magnitude.Bad
-    → read_magnitude l ≡ Magnitude.Bad
+digits-bad : (l : List ℕ) → (get_or l 0 0 ≡ digit0 → ⊥) → digits_from 0 l ≡ None
+    → read_magnitude l ≡ None
 unfolding read_magnitude
 digits-bad l n e =
     rw (ne_eqb (get_or l 0 0) digit0 n, e, cond-bad (ltb digits_max (length l)), cond-bad (eqb (length l) 0))
@@ -55,11 +55,11 @@ unfolding read_magnitude
 digits-good l p q n =
     rw (ne_eqb (length l) 0 (omega arith), le-ltb digits_max (length l) q, ne_eqb (get_or l 0 0) digit0 n)
 
-zero-alone : read_magnitude (digit0 ∷ []) ≡ Magnitude.Is 0
+zero-alone : read_magnitude (digit0 ∷ []) ≡ Some 0
 unfolding read_magnitude
 zero-alone = refl
 
-zero-first : (b : ℕ) (bs : List ℕ) → b ≡ digit0 → 0 < length bs → read_magnitude (b ∷ bs) ≡ Magnitude.Bad
+zero-first : (b : ℕ) (bs : List ℕ) → b ≡ digit0 → 0 < length bs → read_magnitude (b ∷ bs) ≡ None
 unfolding read_magnitude
 zero-first b bs e h =
     rw (

@@ -8,8 +8,6 @@ use lib.ListN.{length, get_or}
 use lib.IntN.{pos, neg_ℤ}
 use lib.Dec.{eqb}
 use borrow.Author.Tests.{eq-eqb, ne_eqb}
-use Rattle.digits.specs.declared.Magnitude.{Magnitude}
-use Rattle.digits.specs.declared.Number.{Number}
 use Rattle.digits.specs.Bytes.{minus_sign}
 use Rattle.digits.specs.Number.{read_magnitude, with_minus, without_minus, read_number}
 use Rattle.digits.proofs.Cases.{either, same_or}
@@ -17,6 +15,7 @@ use Rattle.reading.specs.Places.{part}
 use Rattle.scan.specs.Fields.{is_at, digits_at, OnlyMagnitude, OnlyNumber}
 use Rattle.scan.proofs.Parts.{part_none, part-cons}
 use Rattle.scan.proofs.Tests.{at-yes, at-no}
+use Rattle.std.specs.Prelude.{Some, None}
 
 -- ---- one field
 
@@ -30,27 +29,27 @@ unfolding read_number
 plain-first b bs n = rw (ne_eqb (suc (length bs)) 0 (omega arith), ne_eqb b minus_sign n)
 
 without : (t : Bool) (m : ℕ)
-    → without_minus (cond t (Magnitude.Is m) Magnitude.Bad) ≡ cond t (Number.Is (pos m)) Number.Bad
+    → without_minus (cond t (Some m) None) ≡ cond t (Some (pos m)) None
 unfolding without_minus
 without true m = refl
 without false m = refl
 
 with-some : (t : Bool) (m : ℕ) → (m ≡ 0 → ⊥)
-    → with_minus (cond t (Magnitude.Is m) Magnitude.Bad) ≡ cond t (Number.Is (neg_ℤ (pos m))) Number.Bad
+    → with_minus (cond t (Some m) None) ≡ cond t (Some (neg_ℤ (pos m))) None
 unfolding with_minus
 with-some true m n = rw (ne_eqb m 0 n)
 with-some false m n = refl
 
-with-zero : (t : Bool) (m : ℕ) → m ≡ 0 → with_minus (cond t (Magnitude.Is m) Magnitude.Bad) ≡ Number.Bad
+with-zero : (t : Bool) (m : ℕ) → m ≡ 0 → with_minus (cond t (Some m) None) ≡ None
 unfolding with_minus
 with-zero true m e = rw (eq-eqb m 0 e)
 with-zero false m e = refl
 
-none : with_minus Magnitude.Bad ≡ Number.Bad
+none : with_minus None ≡ None
 unfolding with_minus
 none = refl
 
-empty-bad : with_minus (read_magnitude []) ≡ Number.Bad
+empty-bad : with_minus (read_magnitude []) ≡ None
 unfolding with_minus read_magnitude
 empty-bad = refl
 
@@ -78,7 +77,7 @@ module _ (s : List ℕ) (a : ℕ) where
     signed e p l = rw (part-cons s a e p l) (minus-first (get_or s a 0) (part s (a + 1) e) z)
 
     -- the sign alone
-    alone : (e : ℕ) → a < e → e ≤ length s → e ≤ a + 1 → read_number (part s a e) ≡ Number.Bad
+    alone : (e : ℕ) → a < e → e ≤ length s → e ≤ a + 1 → read_number (part s a e) ≡ None
     alone e p l q = signed e p l ∙ rw (part_none s (a + 1) e q) empty-bad
 
     minus-bad : (m next : ℕ) → OnlyMagnitude s (a + 1) m next → next ≡ a + 1 → OnlyNumber s a (pos 0) a

@@ -1,9 +1,7 @@
 -- A number at a place of a text, against the whole fields that could begin there.
-use Rattle.std.specs.Prelude.{ℕ, ◌+◌, ◌≤◌, ◌<◌, ◌≡◌, List, Bool, cond, length, get_or, eqb, ltb, ℤ, pos}
+use Rattle.std.specs.Prelude.{ℕ, ◌+◌, ◌≤◌, ◌<◌, ◌≡◌, List, Bool, cond, length, get_or, eqb, ltb, ℤ, pos, Some, None}
 use Rattle.digits.specs.Bytes.{minus_sign, digit0, digit9}
 use Rattle.digits.specs.Number.{read_magnitude, read_number}
-use Rattle.digits.specs.declared.Magnitude.{Magnitude}
-use Rattle.digits.specs.declared.Number.{Number}
 use Rattle.reading.specs.Places.{part}
 
 -- this byte stands there
@@ -27,7 +25,7 @@ pub record OnlyMagnitude (t : List ℕ) (a m next : ℕ) : Type 0 where
   pub none : next ≡ a → m ≡ 0
   pub bytes : (k : ℕ) → a ≤ k → k < next → digit0 ≤ get_or t k 0
   pub reads : (e : ℕ) → a < e → Stops t e
-      → read_magnitude (part t a e) ≡ cond (eqb e next) (Magnitude.Is m) Magnitude.Bad
+      → read_magnitude (part t a e) ≡ cond (eqb e next) (Some m) None
 
 -- the same of a signed number
 pub record OnlyNumber (t : List ℕ) (a : ℕ) (v : ℤ) (next : ℕ) : Type 0 where
@@ -35,4 +33,4 @@ pub record OnlyNumber (t : List ℕ) (a : ℕ) (v : ℤ) (next : ℕ) : Type 0 w
   pub inside : next ≤ length t
   pub none : next ≡ a → v ≡ pos 0
   pub bytes : (k : ℕ) → a ≤ k → k < next → minus_sign ≤ get_or t k 0
-  pub reads : (e : ℕ) → a < e → Stops t e → read_number (part t a e) ≡ cond (eqb e next) (Number.Is v) Number.Bad
+  pub reads : (e : ℕ) → a < e → Stops t e → read_number (part t a e) ≡ cond (eqb e next) (Some v) None

@@ -1,18 +1,17 @@
 -- A whole line at its place: "Lines end in one LF, the last too".
 -- Beside a line that is wrongly spelled every part of an answer is zero.
-use Rattle.std.specs.Prelude.{ℕ, ◌+◌, ◌≤◌, ◌≡◌, List, [], ◌∷◌, Bool, true, false, cond, length, take, replicate, eqb}
-use Rattle.std.specs.Prelude.{ltb, ℤ, pos}
+use Rattle.std.specs.Prelude.{ℕ, ◌+◌, ◌≤◌, ◌≡◌, List, [], ◌∷◌, Bool, true, false, cond, length, take, replicate, eqb, ltb, ℤ, pos, Err, Some, None}
+use Rattle.std.specs.Prelude.{Option}
 use Rattle.digits.specs.Bytes.{line_feed}
 use Rattle.digits.specs.Number.{read_number}
-use Rattle.digits.specs.declared.Number.{Number}
 use Rattle.text.specs.Counts.{in_count}
 use Rattle.text.specs.Keys.{same_bytes, body_of}
 use Rattle.text.specs.Lists.{places_max, read_list}
-use Rattle.text.specs.declared.Count.{Count}
 use Rattle.text.specs.declared.Numbers.{Numbers}
 use Rattle.scan.specs.declared.ListAt.{ListAt}
 use Rattle.scan.specs.declared.CountAt.{CountAt}
 use Rattle.reading.specs.Places.{part, line_end}
+use Rattle.text.specs.declared.Uncounted.{Uncounted}
 
 -- the bytes of the line that begins at a
 abbrev pub line_of : List ℕ → ℕ → List ℕ
@@ -58,15 +57,15 @@ pub record ListFrom (key t : List ℕ) (a : ℕ) (r : ListAt) (old vals : List �
 -- ---- one number
 
 -- the number that stands after the key
-abbrev pub number_of : List ℕ → List ℕ → ℕ → Number
-number_of key t a = cond (ltb (line_end t a) (length t)) (read_number (body_of key (line_of t a))) Number.Bad
+abbrev pub number_of : List ℕ → List ℕ → ℕ → Option ℤ
+number_of key t a = cond (ltb (line_end t a) (length t)) (read_number (body_of key (line_of t a))) None
 
 abbrev pub no_count : CountAt
-no_count = record { count = Count.Bad; next = 0 }
+no_count = record { count = (Err Uncounted.Bad); next = 0 }
 
-unfoldable pub counted_of : ℕ → Number → ℕ → CountAt
-counted_of most (Number.Is v) e = record { count = in_count most v; next = e + 1 }
-counted_of most Number.Bad e = no_count
+unfoldable pub counted_of : ℕ → Option ℤ → ℕ → CountAt
+counted_of most (Some v) e = record { count = in_count most v; next = e + 1 }
+counted_of most None e = no_count
 
 -- what is told of the line that begins at a
 abbrev pub CountFrom : ℕ → List ℕ → List ℕ → ℕ → CountAt → Type 0

@@ -6,7 +6,6 @@ use mathlib.Core.Bool.{Bool, true, false}
 use mathlib.Core.List.{List, [], ◌∷◌}
 use lib.ListN.{length}
 use Rattle.faults.specs.declared.Fault.{Fault}
-use Rattle.faults.specs.declared.Finding.{Finding}
 use Rattle.slips.specs.declared.Field.{Field}
 use Rattle.slips.specs.declared.Form.{Form}
 use Rattle.slips.specs.declared.WrongTerm.{WrongTerm}
@@ -22,6 +21,7 @@ use Rattle.slips.specs.declared.RoomSlip.{RoomSlip}
 use Rattle.slips.specs.Slips.{fault_of}
 use Rattle.sentences.specs.Sentences.{line_slip_words, unlike_words, wrong_term_words, misspelled_words}
 use Rattle.sentences.specs.Sentences.{far_words, crossed_words, term_words, room_words, slip_words}
+use Rattle.std.specs.Prelude.{Ok, Err}
 
 zero_one : ◌≡◌ {A = ℕ} 0 1 → ⊥
 zero_one e = omega arith
@@ -101,7 +101,7 @@ room-some RoomSlip.Visits = refl
 room-some RoomSlip.NotOpen = refl
 room-some RoomSlip.Table = refl
 
-slip-begun : (slip : Slip) {f : Fault} → fault_of slip ≡ Finding.Bad f → begun (slip_words slip) ≡ true
+slip-begun : (slip : Slip) {f : Fault} → fault_of slip ≡ Err f → begun (slip_words slip) ≡ true
 unfolding slip_words
 slip-begun Slip.Nothing e = absurd (zero_one (cc))
 slip-begun Slip.Long e = refl
@@ -115,10 +115,10 @@ slip-begun (Slip.Steps v) e = refl
 slip-begun (Slip.Pin v slip) e = refl
 slip-begun (Slip.Room slip) e = room-some slip
 
-pub slip-some : (slip : Slip) {f : Fault} → fault_of slip ≡ Finding.Bad f → 0 < length (slip_words slip)
+pub slip-some : (slip : Slip) {f : Fault} → fault_of slip ≡ Err f → 0 < length (slip_words slip)
 slip-some slip e = some (slip_words slip) (slip-begun slip e)
 
-pub slip-none : (slip : Slip) → fault_of slip ≡ Finding.Fine → slip_words slip ≡ []
+pub slip-none : (slip : Slip) → fault_of slip ≡ Ok tt → slip_words slip ≡ []
 unfolding slip_words
 slip-none Slip.Nothing e = refl
 slip-none Slip.Long e = absurd (zero_one (cc))

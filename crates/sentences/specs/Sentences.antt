@@ -2,7 +2,7 @@
 use Rattle.std.specs.Prelude.{ℕ, ◌≤◌, ◌≡◌, List, [], ◌++◌, cond, eqb, ℤ}
 use Rattle.sizes.specs.Sizes.{n_max, terms_max, text_max, steps_max, number_max, visit_max, end_max, entry_max}
 use Rattle.sizes.specs.Sizes.{degree_max}
-use Rattle.faults.specs.declared.Finding.{Finding}
+use Rattle.faults.specs.Checked.{Finding}
 use Rattle.writing.specs.Wrote.{Wrote}
 use Rattle.slips.specs.declared.Key.{Key}
 use Rattle.slips.specs.declared.Form.{Form}

@@ -107,14 +107,14 @@ fn put_slip(out: &mut [u8], slip: Slip) -> usize
 // The sentence beside a job text's fault, for any bytes and any buffer: its length, 0 where there is no fault. What
 // has no room is counted and not written.
 pub fn explain_job(text: &[u8], out: &mut [u8]) -> usize
-    ensures { Explains (found_in (read_job text.now).status) out.old out.new result }
+    ensures { Explains (found_in status_of (read_job text.now)) out.old out.new result }
 {
     put_slip(out, job_slip(text))
 }
 
 // The same beside a result text's fault.
 pub fn explain_result(text: &[u8], out: &mut [u8]) -> usize
-    ensures { Explains (found_in (read_result text.now).status)
+    ensures { Explains (found_in status_of (read_result text.now))
         out.old out.new result }
 {
     put_slip(out, result_slip(text))

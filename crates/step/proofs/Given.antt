@@ -27,11 +27,11 @@ use Rattle.jobs.specs.declared.Kind.{Kind}
 use Rattle.jobs.specs.declared.Ends.{Ends}
 use Rattle.jobs.specs.declared.Equation.{Equation}
 use Rattle.jobs.specs.declared.Job.{Job}
-use Rattle.faults.specs.declared.Status.{Status}
 use Rattle.step.specs.Step.{middle_of, slope_of, image_of, image_box}
 use Rattle.step.specs.Values.{side_of, box_of, ends_of, start_of, inverse_of}
 use Rattle.step.specs.Ranges.{StepIn}
 use Rattle.step.proofs.Live.{sum_of}
+use Rattle.std.specs.Prelude.{Ok}
 
 equation-in : (n : ℕ) (q : Equation) → GoodEquation q n → EquationIn n q
 equation-in n q g = record { count = g.few; each = λ t l. record { coef = g.size t l; deg = g.deg t l } }
@@ -92,7 +92,7 @@ module _ (n : ℕ) {q r : ℕ → Equation} {C D : ℕ → ℕ → ℤ}
   box-cong x = tab-cong zero_i n_max n _ _ (image-cong (side_at x))
 
 -- the code's lists of an accepted job
-module _ (j : Job) (done : check_job j ≡ Status.Done) {eqs : List Equation} {c : List (List ℤ)}
+module _ (j : Job) (done : check_job j ≡ Ok tt) {eqs : List Equation} {c : List (List ℤ)}
     (made-eqs : eqs ≡ equations_of j)
     (made-c : c ≡ tab n_max j.head.n (replicate n_max (pos 0)) (row_at j.inv)) where
   entry-at : (i k : ℕ) → i < j.head.n → entry_at c i k ≡ inverse_of j i k

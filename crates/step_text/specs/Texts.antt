@@ -3,7 +3,7 @@ use Rattle.std.specs.Prelude.{ℕ, List}
 use Rattle.faults.specs.Checks.{and_then}
 use Rattle.job_form.specs.JobForm.{read_job}
 use Rattle.one_step.specs.OneStep.{image_status, gives_image, gives_move}
-use Rattle.faults.specs.declared.Status.{Status}
+use Rattle.faults.specs.Checked.{Status, status_of}
 use Rattle.jobs.specs.declared.Ends.{Ends}
 use Rattle.jobs.specs.declared.Job.{Job}
 use Rattle.step_text.specs.Lines.{image_lines, move_lines, step_lines}
@@ -27,17 +27,17 @@ decide_text n x k = move_lines n (gives_move n x k)
 
 -- with a box handed in: "the job's and the box's own" faults
 unfoldable pub box_status : List ℕ → Ends → Status
-box_status t x = and_then (read_job t).status (image_status (read_job t).job x)
+box_status t x = and_then (status_of (read_job t)) (image_status (job_in (read_job t)) x)
 
 unfoldable pub box_image : List ℕ → Ends → List ℕ
-box_image t x = image_text (read_job t).job x
+box_image t x = image_text (job_in (read_job t)) x
 
 -- with its own starting box
 unfoldable pub own_status : List ℕ → Status
-own_status t = and_then (read_job t).status (image_status (read_job t).job (read_job t).job.ends)
+own_status t = and_then (status_of (read_job t)) (image_status (job_in (read_job t)) (job_in (read_job t)).ends)
 
 unfoldable pub own_image : List ℕ → List ℕ
-own_image t = image_text (read_job t).job (read_job t).job.ends
+own_image t = image_text (job_in (read_job t)) (job_in (read_job t)).ends
 
 unfoldable pub own_step : List ℕ → List ℕ
-own_step t = step_text_of (read_job t).job (read_job t).job.ends
+own_step t = step_text_of (job_in (read_job t)) (job_in (read_job t)).ends

@@ -5,7 +5,6 @@ pub mod putting;
 
 ghost use Rattle.std.specs.Prelude.{◌≤◌, ◌≡◌, length, take};
 ghost use Rattle.sizes.specs.Sizes.{text_max};
-ghost use Rattle.faults.specs.declared.Status.{Status};
 ghost use Rattle.faults.specs.Answer.{Leaves};
 ghost use Rattle.one_step.specs.OneStep.{image_status, decide_status};
 ghost use Rattle.step_text.specs.Lines.{image_lines, move_lines, step_lines, EndsFit};
@@ -23,14 +22,14 @@ use writing::put_whole;
 fn hand_over(text: &[u8], len: usize, out: &mut [u8]) -> Written
     requires text_len { length text.now ≡ text_max }
     requires len_le_text_max { len ≤ text_max }
-    ensures { Leaves Status.Done (take len text.now) out.old out.new result }
+    ensures { Leaves Ok tt (take len text.now) out.old out.new result }
 {
     put_whole(&text[..len], out)
 }
 
 fn image_lines(n: usize, k: Ends, out: &mut [u8]) -> Written
     requires { EndsFit n k }
-    ensures { Leaves Status.Done (image_lines n k) out.old out.new result }
+    ensures { Leaves Ok tt (image_lines n k) out.old out.new result }
 {
     let mut text = [0u8; TEXT];
     let len = put_image(&mut text, 0, n, k);
@@ -39,7 +38,7 @@ fn image_lines(n: usize, k: Ends, out: &mut [u8]) -> Written
 
 fn move_lines(n: usize, d: Decided, out: &mut [u8]) -> Written
     requires { EndsFit n d.ends }
-    ensures { Leaves Status.Done (move_lines n d) out.old out.new result }
+    ensures { Leaves Ok tt (move_lines n d) out.old out.new result }
 {
     let mut text = [0u8; TEXT];
     let len = put_move(&mut text, 0, n, d);
@@ -49,7 +48,7 @@ fn move_lines(n: usize, d: Decided, out: &mut [u8]) -> Written
 fn step_lines(n: usize, k: Ends, d: Decided, out: &mut [u8]) -> Written
     requires ends_fit { EndsFit n k }
     requires ends_fit_2 { EndsFit n d.ends }
-    ensures { Leaves Status.Done (step_lines n k d) out.old out.new result }
+    ensures { Leaves Ok tt (step_lines n k d) out.old out.new result }
 {
     let mut text = [0u8; TEXT];
     let at = put_image(&mut text, 0, n, k);

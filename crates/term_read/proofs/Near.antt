@@ -9,7 +9,6 @@ use lib.IntN.{pos}
 use Rattle.sizes.specs.Sizes.{terms_max, entry_max}
 use Rattle.digits.specs.Bytes.{comma}
 use Rattle.digits.specs.Number.{read_number}
-use Rattle.digits.specs.declared.Number.{Number}
 use Rattle.jobs.specs.declared.Term.{Term}
 use Rattle.jobs.specs.Places.{no_term}
 use Rattle.term_checks.specs.Ranges.{is_within}
@@ -23,6 +22,7 @@ use Rattle.term_text.specs.Terms.{no_terms, misspelled, put_term, add_coef, add_
 use Rattle.digits.specs.Digits.{all_digits}
 use Rattle.text.specs.Words.{eq_key}
 use Rattle.term_text.specs.Terms.{exponents, colon, read_terms, read_equation}
+use Rattle.std.specs.Prelude.{Some, None, Option}
 
 abbrev sized : Term → Bool
 sized x = is_within x.coef (pos entry_max)
@@ -68,10 +68,10 @@ put-near a x p = record {
       set-sized a.equation.terms a.equation.count k x q.1 (p.each q.0);
 }
 
-coef-near : (a : Terms) (c : Number) (exps : List ℕ) → Near a → Near (add_coef a c exps)
+coef-near : (a : Terms) (c : Option ℤ) (exps : List ℕ) → Near a → Near (add_coef a c exps)
 unfolding add_coef
-coef-near a Number.Bad exps p = bad-near a p
-coef-near a (Number.Is c) exps p = put-near a _ p
+coef-near a None exps p = bad-near a p
+coef-near a (Some c) exps p = put-near a _ p
 
 cond-near : (b : Bool) {u v : Terms} → Near u → Near v → Near (cond b u v)
 cond-near true p q = p

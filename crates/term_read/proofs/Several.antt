@@ -10,7 +10,6 @@ use borrow.Author.Tests.{ne_eqb}
 use Rattle.sizes.specs.Sizes.{terms_max}
 use Rattle.digits.specs.Bytes.{line_feed, comma}
 use Rattle.digits.specs.Number.{read_number}
-use Rattle.digits.specs.declared.Number.{Number}
 use Rattle.digits.proofs.Cases.{either}
 use Rattle.jobs.specs.Zero.{zero_term, zero_equation}
 use Rattle.jobs.specs.declared.Term.{Term}
@@ -33,6 +32,7 @@ use Rattle.scan.proofs.Keyed.{no_key, has_key, same_end, body_at}
 use Rattle.term_read.specs.Terms.{OnlyTerm}
 use Rattle.term_read.specs.Lines.{is_mark, is_far, bad_terms, TermsOf, TermsFrom}
 use Rattle.term_read.specs.declared.TermsAt.{TermsAt}
+use Rattle.std.specs.Prelude.{Some, None, Option}
 
 -- ---- a term is a field
 
@@ -44,10 +44,10 @@ bad : (l : Terms) → (misspelled l).ok ≡ false
 unfolding misspelled
 bad l = refl
 
-coef-stuck : (l : Terms) (v : Number) (exps : List ℕ) → l.ok ≡ false → (add_coef l v exps).ok ≡ false
+coef-stuck : (l : Terms) (v : Option ℤ) (exps : List ℕ) → l.ok ≡ false → (add_coef l v exps).ok ≡ false
 unfolding add_coef put_term
-coef-stuck l Number.Bad exps e = bad l
-coef-stuck l (Number.Is c) exps e = e
+coef-stuck l None exps e = bad l
+coef-stuck l (Some c) exps e = e
 
 pub stuck : (n : ℕ) (l : Terms) (f : List ℕ) → l.ok ≡ false → (add_term n l f).ok ≡ false
 unfolding add_term add_parts

@@ -9,7 +9,6 @@ use lib.IntN.{ℤ}
 use lib.Dec.{leb, eqb}
 use borrow.Author.Tests.{eq-eqb, ne_eqb, le-leb, lt-leb, leb-true}
 use Rattle.lists.proofs.All.{all-each}
-use Rattle.digits.specs.declared.Number.{Number}
 use Rattle.digits.specs.Bytes.{digit0, digit9}
 use Rattle.digits.specs.Number.{read_number}
 use Rattle.digits.proofs.Cases.{either, same_or}
@@ -23,12 +22,13 @@ use Rattle.scan.proofs.Listing.{number-here, number-other}
 use Rattle.scan.proofs.Parts.{part_length, part_at, part-take, part-drop}
 use Rattle.term_read.specs.Terms.{exps_of, OnlyTerm}
 use Rattle.term_read.specs.declared.Exps.{Exps}
+use Rattle.std.specs.Prelude.{Some, None, Option}
 
-coef-bad : (acc : Terms) (v : Number) (exps : List ℕ) → v ≡ Number.Bad → add_coef acc v exps ≡ misspelled acc
+coef-bad : (acc : Terms) (v : Option ℤ) (exps : List ℕ) → v ≡ None → add_coef acc v exps ≡ misspelled acc
 unfolding add_coef
 coef-bad acc v exps z = rw z
 
-coef-good : (acc : Terms) (v : Number) (c : ℤ) (exps : List ℕ) → v ≡ Number.Is c
+coef-good : (acc : Terms) (v : Option ℤ) (c : ℤ) (exps : List ℕ) → v ≡ Some c
     → add_coef acc v exps ≡ put_term acc (record { coef = c; exps = exps })
 unfolding add_coef
 coef-good acc v c exps z = rw z
@@ -82,7 +82,7 @@ module _ (s : List ℕ) (a n e : ℕ) (p : a ≤ e) (q : e ≤ length s) (acc : 
 
 module _ (s : List ℕ) (a n : ℕ) (v : ℤ) (c : ℕ) (num : OnlyNumber s a v c) where
   coef-other : (m : ℕ) → a ≤ m → m < length s → get_or s m 0 ≡ colon → (a < c → m ≡ c → ⊥)
-      → read_number (part s a m) ≡ Number.Bad
+      → read_number (part s a m) ≡ None
   coef-other m h l z o =
       number-other s a v c num m h (record { inside = omega arith; other = λ x y w. omega (arith, z, w) }) o
 

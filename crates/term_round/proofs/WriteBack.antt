@@ -27,12 +27,12 @@ use Rattle.term_text.specs.Terms.{colon, exponents, no_terms, misspelled, put_te
 use Rattle.digits.specs.Digits.{is_digit, all_digits}
 use Rattle.term_text.specs.Terms.{add_parts, add_term, last_term, read_terms, read_equation}
 use Rattle.term_write.specs.ShowTerms.{show_exponents, show_term, equation_text}
-use Rattle.digits.specs.declared.Number.{Number}
 use Rattle.jobs.specs.declared.Term.{Term}
 use Rattle.jobs.specs.declared.Equation.{Equation}
 use Rattle.term_text.specs.declared.Terms.{Terms}
 use Rattle.term_round.specs.Live.{live_term, live_equation}
 use Rattle.term_round.proofs.Stored.{fold-count, stored-texts, stored-live}
+use Rattle.std.specs.Prelude.{Some, None, Option}
 
 zero_one : {A : Type 0} → ◌≡◌ {A = ℕ} 0 1 → A
 zero_one z = absurd (omega arith)
@@ -113,11 +113,11 @@ exponents-live n c ds h =
 
 coef-is : (n at : ℕ) (a : Terms) (f : List ℕ) → n ≤ n_max → at + 1 + n ≡ length f → get_or f at 0 ≡ colon
     → all_digits (drop (at + 1) f) ≡ true
-    → (c : Number) → read_number (take at f) ≡ c → (add_coef a c (exponents n (drop (at + 1) f))).ok ≡ true
+    → (c : Option ℤ) → read_number (take at f) ≡ c → (add_coef a c (exponents n (drop (at + 1) f))).ok ≡ true
     → add_term n a f ≡ add_coef a c (exponents n (drop (at + 1) f)) → FieldIs n a f
 unfolding add_coef
-coef-is n at a f h l m d Number.Bad p k r = absurd (false≢true (sym (bad-ok a) ∙ k))
-coef-is n at a f h l m d (Number.Is v) p k r =
+coef-is n at a f h l m d None p k r = absurd (false≢true (sym (bad-ok a) ∙ k))
+coef-is n at a f h l m d (Some v) p k r =
     let ds = drop (at + 1) f in
     let t : Term = record { coef = v; exps = exponents n ds } in
     record {
@@ -146,10 +146,10 @@ cond-not : (b : Bool) (x y : Terms) → x.ok ≡ false → y.ok ≡ false → (c
 cond-not true x y p q = p
 cond-not false x y p q = q
 
-coef-not : (a : Terms) (c : Number) (exps : List ℕ) → a.ok ≡ false → (add_coef a c exps).ok ≡ false
+coef-not : (a : Terms) (c : Option ℤ) (exps : List ℕ) → a.ok ≡ false → (add_coef a c exps).ok ≡ false
 unfolding add_coef put_term
-coef-not a Number.Bad exps e = bad-ok a
-coef-not a (Number.Is v) exps e = e
+coef-not a None exps e = bad-ok a
+coef-not a (Some v) exps e = e
 
 term-not : (n : ℕ) (a : Terms) (f : List ℕ) → a.ok ≡ false → (add_term n a f).ok ≡ false
 unfolding add_term add_parts

@@ -1,7 +1,7 @@
 -- The terms of an `eq` line. Document 01: "A `poly` job has `eq` lines of terms `coefficient:exponents`, one digit for
 -- each unknown".
-use Rattle.std.specs.Prelude.{ℕ, ◌+◌, ◌-◌, List, Bool, true, false, cond, not, ◌&&◌, ◌||◌, length, take, drop, get_or}
-use Rattle.std.specs.Prelude.{set, eqb, leb, pos}
+use Rattle.std.specs.Prelude.{ℕ, ◌+◌, ◌-◌, List, Bool, true, false, cond, not, ◌&&◌, ◌||◌, length, take, drop, get_or, set, eqb, leb, pos, Some, None}
+use Rattle.std.specs.Prelude.{Option}
 use Rattle.sizes.specs.Sizes.{n_max, entry_max}
 use Rattle.lists.specs.Loops.{tab}
 use Rattle.jobs.specs.Zero.{zero_equation}
@@ -13,7 +13,6 @@ use Rattle.text.specs.Cut.{Cut, fresh, feeds}
 use Rattle.text.specs.Words.{eq_key}
 use Rattle.text.specs.Keys.{starts_with, body_of}
 use Rattle.jobs.specs.declared.Term.{Term}
-use Rattle.digits.specs.declared.Number.{Number}
 use Rattle.term_text.specs.declared.Terms.{Terms}
 
 abbrev pub colon : ℕ
@@ -44,9 +43,9 @@ put_term a t =
       equation = record { count = a.equation.count + 1; terms = set a.equation.terms a.equation.count t };
     }
 
-unfoldable pub add_coef : Terms → Number → List ℕ → Terms
-add_coef a Number.Bad exps = misspelled a
-add_coef a (Number.Is c) exps = put_term a (record { coef = c; exps = exps })
+unfoldable pub add_coef : Terms → Option ℤ → List ℕ → Terms
+add_coef a None exps = misspelled a
+add_coef a (Some c) exps = put_term a (record { coef = c; exps = exps })
 
 -- a coefficient, and n digits after the byte at `at`
 unfoldable pub add_parts : ℕ → Terms → ℕ → List ℕ → Terms

@@ -13,12 +13,12 @@ use Rattle.digits.specs.Number.{digits_max, read_number}
 use Rattle.digits.specs.Show.{show_signed, show_number}
 use Rattle.digits.proofs.ReadBack.{number-back}
 use Rattle.digits.proofs.WriteBack.{number-was}
-use Rattle.digits.specs.declared.Number.{Number}
 use Rattle.text.specs.declared.Numbers.{Numbers}
 use Rattle.text.specs.Lists.{places_max, no_numbers, put_number, add_read, add_field}
 use Rattle.text.specs.Lists.{last_field, read_list, joined, show_all, show_list, Below, Small}
 use Rattle.text.proofs.Pieces.{Above, AllAbove, above-append, commas-above, number-above}
 use Rattle.text.proofs.Pieces.{fed-joined, fields, fields-joined, fields-fold}
+use Rattle.std.specs.Prelude.{Some, None, Option}
 
 -- ---- numbers at their places
 
@@ -115,9 +115,9 @@ unfolding add_field add_read put_number
 not-ok [] a e = e
 not-ok (f ∷ fs) a e = not-ok fs (add_field a f) (add-not (read_number f))
   where
-    add-not : (n : Number) → (add_read a n).ok ≡ false
-    add-not (Number.Is v) = e
-    add-not Number.Bad = refl
+    add-not : (n : Option ℤ) → (add_read a n).ok ≡ false
+    add-not (Some v) = e
+    add-not None = refl
 
 record Shown (a : Numbers) (fs : List (List ℕ)) : Type 0 where
   vs : List ℤ
@@ -129,10 +129,10 @@ unfolding add_field add_read
 shown [] a e = record { vs = []; spelled = refl; read = refl }
 shown (f ∷ fs) a e = go (read_number f) refl (λ x q. shown fs x q)
   where
-    go : (n : Number)
+    go : (n : Option ℤ)
         → read_number f ≡ n → ((x : Numbers) → (foldl add_field x fs).ok ≡ true → Shown x fs) → Shown a (f ∷ fs)
-    go Number.Bad q ih = absurd (false≢true (sym (not-ok fs _ (ap (λ (x : Number). (add_read a x).ok) q)) ∙ e))
-    go (Number.Is v) q ih =
+    go None q ih = absurd (false≢true (sym (not-ok fs _ (ap (λ (x : Option ℤ). (add_read a x).ok) q)) ∙ e))
+    go (Some v) q ih =
         let step : add_field a f ≡ put_number a v = ap (add_read a) q in
         let t = ih (put_number a v) (ap (λ (x : Numbers). (foldl add_field x fs).ok) (sym step) ∙ e) in
         record {

@@ -1,11 +1,10 @@
 -- "Lists are joined by commas."
-use Rattle.std.specs.Prelude.{ℕ, ◌+◌, ◌*◌, ◌^◌, ◌<◌, List, [], ◌∷◌, ◌++◌, map, true, false, set, replicate, ℤ, pos}
-use Rattle.std.specs.Prelude.{nat_abs}
+use Rattle.std.specs.Prelude.{ℕ, ◌+◌, ◌*◌, ◌^◌, ◌<◌, List, [], ◌∷◌, ◌++◌, map, true, false, set, replicate, ℤ, pos, nat_abs, Some, None}
+use Rattle.std.specs.Prelude.{Option}
 use Rattle.sizes.specs.Sizes.{n_max}
 use Rattle.digits.specs.Bytes.{comma}
 use Rattle.digits.specs.Number.{digits_max, read_number}
 use Rattle.digits.specs.Show.{show_signed}
-use Rattle.digits.specs.declared.Number.{Number}
 use Rattle.text.specs.Cut.{Cut, fresh, feeds}
 use Rattle.text.specs.declared.Numbers.{Numbers}
 
@@ -21,9 +20,9 @@ no_numbers = record { ok = true; count = 0; vals = replicate places_max (pos 0) 
 unfoldable pub put_number : Numbers → ℤ → Numbers
 put_number a v = record { ok = a.ok; count = a.count + 1; vals = set a.vals a.count v }
 
-unfoldable pub add_read : Numbers → Number → Numbers
-add_read a (Number.Is v) = put_number a v
-add_read a Number.Bad = record { ok = false; count = a.count; vals = a.vals }
+unfoldable pub add_read : Numbers → Option ℤ → Numbers
+add_read a (Some v) = put_number a v
+add_read a None = record { ok = false; count = a.count; vals = a.vals }
 
 -- one more field
 unfoldable pub add_field : Numbers → List ℕ → Numbers

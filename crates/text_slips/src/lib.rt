@@ -3,7 +3,6 @@
 
 ghost use Rattle.std.specs.Prelude.{◌≡◌, ◌≤◌, length};
 ghost use Rattle.sizes.specs.Sizes.{n_max};
-ghost use Rattle.faults.specs.declared.Finding.{Finding};
 ghost use Rattle.job_form.specs.JobForm.{read_job};
 ghost use Rattle.result_form.specs.ResultForm.{read_result};
 ghost use Rattle.slips.specs.Slips.{fault_of, found_in};
@@ -164,7 +163,7 @@ fn result_seen(text: &[u8], line: u64) -> Seen
 
 // What is wrong with a job text.
 pub fn job_slip(text: &[u8]) -> Slip
-    ensures { fault_of result ≡ found_in (read_job text.now).status }
+    ensures { fault_of result ≡ found_in status_of (read_job text.now) }
 {
     let status = read_status(text);
     match status {
@@ -175,7 +174,7 @@ pub fn job_slip(text: &[u8]) -> Slip
 
 // What is wrong with a result text.
 pub fn result_slip(text: &[u8]) -> Slip
-    ensures { fault_of result ≡ found_in (read_result text.now).status }
+    ensures { fault_of result ≡ found_in status_of (read_result text.now) }
 {
     let read = read_result(text);
     let status = read.status;

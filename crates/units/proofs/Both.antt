@@ -9,17 +9,17 @@ use borrow.Author.Tests.{le-ltb}
 use Rattle.sizes.specs.Sizes.{text_max}
 use Rattle.checks.specs.CheckResult.{check_result}
 use Rattle.jobs.specs.declared.Result.{Result}
-use Rattle.faults.specs.declared.Status.{Status}
+use Rattle.faults.specs.Checked.{Written, Checked}
 use Rattle.writing.specs.Wrote.{Wrote}
 use Rattle.faults.specs.Answer.{answer_of, left_in, Leaves}
-use Rattle.faults.specs.declared.Written.{Written}
 use Rattle.writing.proofs.Wrote.{wrote-append}
 use Rattle.result_form.specs.ResultShows.{show_result}
 use Rattle.result_form.proofs.Trips.{result-short}
 use Rattle.result_write.proofs.Ready.{ready-done}
 use Rattle.units.specs.Show.{unknown_lines, units_of}
+use Rattle.std.specs.Prelude.{Ok}
 
-pub checked-short : (r : Result) → check_result r ≡ Status.Done → length (show_result r) ≤ text_max
+pub checked-short : (r : Result) → check_result r ≡ Ok tt → length (show_result r) ≤ text_max
 checked-short r e = result-short r (ready-done r e).few
 
 -- the first k bytes are the result's text
@@ -28,15 +28,15 @@ pub record Whole (r : Result) (new : List ℕ) (k : ℕ) : Type 0 where
   pub text : take k new ≡ show_result r
 
 module _ (r : Result) where
-  pub result-whole : {old new : List ℕ} {a : Written} → check_result r ≡ Status.Done → text_max ≤ length old
+  pub result-whole : {old new : List ℕ} {a : Written} → check_result r ≡ Ok tt → text_max ≤ length old
       → Leaves (check_result r) (show_result r) old new a → Whole r new a.len
   unfolding answer_of left_in
   result-whole {old} {new} {a} e room l =
       let t = show_result r in
       let fits = le-ltb (length old) (length t) (omega (arith, checked-short r e)) in
-      let done : Leaves Status.Done t old new a = rw e at l in
-      let answer : a ≡ record { status = Status.Done; len = length t } = done.answer ∙ rw fits in
-      let k : a.len ≡ length t = ap (λ (w : Written). w.len) answer in
+      let done : Leaves (Ok tt) t old new a = rw e at l in
+      let answer : a ≡ Ok (length t) = done.answer ∙ rw fits in
+      let k : a.len ≡ length t = ap (λ (w : Checked ℕ). w.len) answer in
       let is : new ≡ t ++ drop (length t) old = done.left ∙ rw fits in
       record {
         inside = rw (k, is, length-append t (drop (length t) old)) (omega arith);

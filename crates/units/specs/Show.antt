@@ -41,11 +41,11 @@ unfoldable pub units_of : Result → List ℕ
 units_of r = show_result r ++ unknown_lines r.n r.lo r.hi
 
 unfoldable pub units_run : Job → List ℕ
-units_run j = units_of (run_job j).result
+units_run j = units_of (result_in (run_job j))
 
 -- a job text is read, run and answered
 unfoldable pub units_text : List ℕ → List ℕ
-units_text t = units_run (read_job t).job
+units_text t = units_run (job_in (read_job t))
 
 -- bytes that no line of an unknown reaches
 abbrev pub unknown_max : ℕ

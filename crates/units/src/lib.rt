@@ -2,7 +2,6 @@
 #![tactic(auto)]
 
 ghost use Rattle.std.specs.Prelude.{◌≡◌};
-ghost use Rattle.faults.specs.declared.Status.{Status};
 ghost use Rattle.checks.specs.CheckResult.{check_result};
 ghost use Rattle.faults.specs.Answer.{Leaves};
 ghost use Rattle.desk.specs.Desk.{run_status, solve_status};
@@ -20,7 +19,7 @@ use writing::put_bytes;
 // The result's text, and behind it the lines, which are measured on a buffer of one byte.
 fn put_both(r: Result, text: &[u8], out: &mut [u8]) -> Written
     requires { TextFits r text.now }
-    ensures { Leaves Status.Done (units_of r) out.old out.new result }
+    ensures { Leaves Ok tt (units_of r) out.old out.new result }
 {
     let n = r.n;
     let lo = r.lo;
@@ -42,8 +41,8 @@ fn put_both(r: Result, text: &[u8], out: &mut [u8]) -> Written
 }
 
 fn write_checked(r: Result, out: &mut [u8]) -> Written
-    requires { check_result r ≡ Status.Done }
-    ensures { Leaves Status.Done (units_of r) out.old out.new result }
+    requires { check_result r ≡ Ok tt }
+    ensures { Leaves Ok tt (units_of r) out.old out.new result }
 {
     let mut text = [0u8; TEXT];
     let a = result_write::write_result(r, &mut text);

@@ -11,7 +11,6 @@ use Rattle.lists.specs.Loops.{tab}
 use Rattle.lists.proofs.Tab.{get_or-tab, tab-cong}
 use Rattle.intervals.specs.declared.Interval.{Interval}
 use Rattle.intervals.specs.Places.{side_at}
-use Rattle.faults.specs.declared.Status.{Status}
 use Rattle.jobs.specs.declared.Job.{Job}
 use Rattle.jobs.specs.declared.Result.{Result}
 use Rattle.jobs.specs.declared.Verdict.{Verdict}
@@ -34,6 +33,7 @@ use Rattle.reading.specs.NumberLines.{placed}
 use Rattle.result_form.specs.ResultShows.{live}
 use Rattle.runs.proofs.Results.{from-checked}
 use Rattle.visits.specs.Visits.{opened_as, is_finished, added, next_reading, Stands}
+use Rattle.std.specs.Prelude.{Ok}
 
 -- the box so far
 abbrev pub box_in : Job → Result → List Interval
@@ -156,12 +156,12 @@ next-live j r few e = by (is_finished r.verdict r.steps j.steps)
 
 -- ---- the reading at the opening
 
-module _ (j : Job) (checked : check_job j ≡ Status.Done) (visit : ℕ) where
+module _ (j : Job) (checked : check_job j ≡ Ok tt) (visit : ℕ) where
   pub opened-live : live (opened_as visit j) ≡ opened_as visit j
   unfolding result_of
   opened-live = made-live (opened_as visit j) (check_done j checked).few _ _ refl refl
 
-  pub opened-right : visit ≤ visit_max → check_result (opened_as visit j) ≡ Status.Done
+  pub opened-right : visit ≤ visit_max → check_result (opened_as visit j) ≡ Ok tt
   unfolding result_of run_of
   opened-right h =
       let start = start-in (check_done j checked) in

@@ -8,7 +8,6 @@ use mathlib.Core.Logic.{⊎_elim}
 use borrow.Author.Tests.{lt-leb, le-leb}
 use Rattle.digits.proofs.Cases.{either}
 use Rattle.intervals.specs.declared.Interval.{Interval}
-use Rattle.faults.specs.declared.Status.{Status}
 use Rattle.jobs.specs.declared.Job.{Job}
 use Rattle.jobs.specs.declared.Result.{Result}
 use Rattle.jobs.specs.declared.Verdict.{Verdict}
@@ -25,6 +24,7 @@ use Rattle.run.specs.Run.{outcome, settle, run_of}
 use Rattle.run.specs.Job.{run_from, outcome_of, result_of}
 use Rattle.runs.proofs.Runs.{spent-or, run-back, run-one, whole-spent, run_on, run-stays}
 use Rattle.visits.specs.Visits.{reading_of, opened_as, is_finished, added, next_reading, times}
+use Rattle.std.specs.Prelude.{Ok}
 
 -- a decided reading is finished
 decided-finished : (v : Verdict) (steps allowance : ℕ) → (v ≡ Verdict.Spent → ⊥) → is_finished v steps allowance ≡ true
@@ -43,7 +43,7 @@ counted Move.Unique y t = refl
 counted Move.Stalled y t = refl
 counted Move.Next y t = refl
 
-module _ (j : Job) (checked : check_job j ≡ Status.Done) (visit : ℕ) where
+module _ (j : Job) (checked : check_job j ≡ Ok tt) (visit : ℕ) where
   accepted : Accepted j
   accepted = check_done j checked
 

@@ -1,6 +1,5 @@
 -- A visit to a room, by its values: a job, and its reading. Document 02, P12.
-use Rattle.std.specs.Prelude.{ℕ, zero, suc, ◌+◌, ◌≤◌, ◌≡◌, Bool, true, cond, leb}
-use Rattle.faults.specs.declared.Status.{Status}
+use Rattle.std.specs.Prelude.{ℕ, zero, suc, ◌+◌, ◌≤◌, ◌≡◌, Bool, true, cond, leb, Ok}
 use Rattle.jobs.specs.declared.Job.{Job}
 use Rattle.jobs.specs.declared.Result.{Result}
 use Rattle.jobs.specs.declared.Verdict.{Verdict}
@@ -47,8 +46,8 @@ next_reading j r =
 
 -- a right job and a right reading of it
 pub record Stands (j : Job) (r : Result) : Type 0 where
-  pub job : check_job j ≡ Status.Done
-  pub reading : check_result r ≡ Status.Done
+  pub job : check_job j ≡ Ok tt
+  pub reading : check_result r ≡ Ok tt
   pub number : r.number ≡ j.head.number
   pub same : r.n ≡ j.head.n
   pub steps : r.steps ≤ j.steps

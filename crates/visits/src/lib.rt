@@ -3,7 +3,6 @@
 
 ghost use Rattle.std.specs.Prelude.{◌≡◌, ◌+◌, ◌≤◌};
 ghost use Rattle.sizes.specs.Sizes.{n_max, steps_max};
-ghost use Rattle.faults.specs.declared.Status.{Status};
 ghost use Rattle.checks.specs.Checks.{check_job};
 ghost use Rattle.visits.specs.Visits.{opened_as, is_finished, added, next_reading, Stands};
 
@@ -13,7 +12,7 @@ use step::values::{box_of, ends_of};
 
 // The reading at the opening.
 pub fn first_reading(j: Job, visit: u64) -> Result
-    requires { check_job j ≡ Status.Done }
+    requires { check_job j ≡ Ok tt }
     ensures { result ≡ opened_as visit j }
 {
     let ends = j.ends;

@@ -5,13 +5,13 @@ use mathlib.Core.Path.{◌≡◌, ap, ◌∙◌}
 use mathlib.Core.List.{List, ◌++◌}
 use lib.ListN.{length, take, drop, length-append}
 use lib.Seq.{sets-eq, take-append_seam}
-use Rattle.faults.specs.declared.Status.{Status}
 use Rattle.faults.specs.Answer.{Leaves}
 use Rattle.faults.proofs.Answer.{has_room}
 use Rattle.writing.specs.Wrote.{Wrote}
+use Rattle.std.specs.Prelude.{Ok}
 
 pub all-written : (t old : List ℕ) {new : List ℕ} {k : ℕ} → length t ≤ length old → Wrote old new 0 k t
-    → Leaves Status.Done t old new (record { status = Status.Done; len = length t })
+    → Leaves (Ok tt) t old new (Ok (length t))
 all-written t old h w =
     let e : 0 + length t ≡ length t = omega arith in
     has_room t old h (w.text ∙ sets-eq t old 0 (omega arith) ∙ ap (λ (k : ℕ). t ++ drop k old) e)

@@ -3,7 +3,6 @@
 #![tactic(auto)]
 
 ghost use Rattle.std.specs.Prelude.{◌≡◌, [], ◌∷◌, ◌++◌, ◌+◌, ◌*◌, ◌≤◌, ◌<◌, ◌^◌, length, nat_abs};
-ghost use Rattle.faults.specs.declared.Status.{Status};
 ghost use Rattle.faults.specs.Answer.{Leaves};
 ghost use Rattle.digits.specs.Number.{digits_max, long_max};
 ghost use Rattle.digits.specs.Show.{show_magnitude, show_signed};
@@ -167,7 +166,7 @@ pub fn put_row_line(
 // A whole text over a lent buffer from its start on, or nothing where it has no room.
 pub fn put_whole(text: &[u8], out: &mut [u8]) -> Written
     requires { length text.now ≤ place_max }
-    ensures { Leaves Status.Done text.now out.old out.new result }
+    ensures { Leaves Ok tt text.now out.old out.new result }
 {
     if out.len() < text.len() {
         return Written {

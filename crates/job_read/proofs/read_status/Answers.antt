@@ -2,7 +2,7 @@
 use mathlib.Core.Path.{refl, sym, ap, ◌∙◌}
 use Prim.Native.Nat.{ℕ}
 use native.Mathlib.Omega.{arith}
-use Rattle.faults.specs.declared.Status.{Status}
+use Rattle.faults.specs.Checked.{Status, refused}
 use Rattle.faults.specs.declared.Fault.{Fault}
 use Rattle.jobs.specs.declared.Job.{Job}
 use Rattle.reading.specs.Lines.{Answer}
@@ -71,7 +71,7 @@ returns-then-s-text c =
     let solved = leads-on _ _ boxed
     (sym c.is_bad-2.ensures ∙ c.if-is_bad-2.false)
     (c.system_end-s.ensures.from.leads _ refl refl) in
-    ap (λ (n : ℕ). Status.Refused Fault.Spelling n) c.job_line_number.ensures
+    ap (λ (n : ℕ). refused Fault.Spelling n) c.job_line_number.ensures
     ∙ sym (ap status_of
     (read-extra job_form_of c.args.text.now c.if-text-gt-TEXT.false solved refl
     (sym c.is_bad-3.ensures ∙ c.if-is_bad-3.false) c.if-s-text.true))

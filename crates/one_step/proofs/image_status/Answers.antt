@@ -1,7 +1,7 @@
 -- image_status: the box is looked at where the job is right.
 use mathlib.Core.Path.{sym, ap, ◌∙◌}
 use Rattle.faults.specs.Checks.{on_line}
-use Rattle.faults.specs.declared.Finding.{Finding}
+use Rattle.faults.specs.Checked.{Finding}
 use Rattle.faults.proofs.Laws.{not-bad, bad-first, good-first}
 use Rattle.checks.proofs.AcceptedLaws.{check_done}
 use Rattle.one_step.specs.OneStep.{image_status}

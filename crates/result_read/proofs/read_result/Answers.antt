@@ -1,6 +1,6 @@
 -- `result_read::read_result` meets its contract.
 use mathlib.Core.Path.{refl, sym, ap, ◌∙◌}
-use Rattle.faults.specs.declared.Status.{Status}
+use Rattle.faults.specs.Checked.{refused}
 use Rattle.faults.specs.declared.Fault.{Fault}
 use Rattle.jobs.specs.Zero.{no_result}
 use Rattle.reading.proofs.Goes.{read-long}
@@ -57,7 +57,7 @@ returns-then-b-text c =
     c.told_at-t.ensures (sym c.is_bad-2.ensures ∙ c.if-is_bad-2.false)
     c.box_at-b.ensures in
     c.refused-then-b-text.ensures
-    ∙ ap (λ (n : ℕ). refused_with (Status.Refused Fault.Spelling n)) c.result_line_number.ensures
+    ∙ ap (λ (n : ℕ). refused Fault.Spelling n) c.result_line_number.ensures
     ∙ sym (ap result_answer
     (read-extra result_form_of c.args.text.now c.if-text-gt-TEXT.false read refl
     (sym c.is_bad-3.ensures ∙ c.if-is_bad-3.false) c.if-b-text.true))

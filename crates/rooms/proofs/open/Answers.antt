@@ -3,13 +3,13 @@ use native.Mathlib.Omega.{arith}
 use mathlib.Core.Path.{refl, sym, ap, ◌∙◌}
 use Rattle.faults.specs.Checks.{is_bad}
 use Rattle.faults.proofs.Laws.{not-bad}
-use Rattle.job_form.specs.declared.JobRead.{JobRead}
 use Rattle.job_form.proofs.Answers.{read-checked}
 use Rattle.visits.proofs.Readings.{opened-right}
 use Rattle.room_form.specs.Calls.{open_answer, opened}
 use Rattle.room_form.proofs.Whole.{whole_long}
 use Rattle.room_form.proofs.Opening.{no_table, no-job, is-full, no-visit, is-opened, not_opened, job-short}
 use Rattle.rooms.proofs.open.Goals as goal
+use Rattle.faults.specs.Checked.{Checked}
 
 pub returns-then-not-is_whole : goal.returns-then-not-is_whole
 returns-then-not-is_whole c =
@@ -22,7 +22,7 @@ pub returns-then-is_bad : goal.returns-then-is_bad
 returns-then-is_bad c =
     let args = c.args in
     let whole = sym c.is_whole.ensures ∙ c.if-not-is_whole.false in
-    let status = ap (λ (x : JobRead). x.status) c.read_job-read.ensures in
+    let status = ap (λ (x : Checked Job). x.status) c.read_job-read.ensures in
     let bad = ap is_bad (sym status) ∙ sym c.is_bad.ensures ∙ c.if-is_bad.true in
     let both = not_opened args.table.now args.text.now (no-job _ _ whole bad) bad
     (c.not_opened-then-is_bad.ensures.0 ∙ status, c.not_opened-then-is_bad.ensures.1) in
@@ -36,7 +36,7 @@ pub returns-then-slot-ge-ROOMS : goal.returns-then-slot-ge-ROOMS
 returns-then-slot-ge-ROOMS c =
     let args = c.args in
     let whole = sym c.is_whole.ensures ∙ c.if-not-is_whole.false in
-    let status = ap (λ (x : JobRead). x.status) c.read_job-read.ensures in
+    let status = ap (λ (x : Checked Job). x.status) c.read_job-read.ensures in
     let right = ap is_bad (sym status) ∙ sym c.is_bad.ensures
     ∙ c.if-is_bad.false in
     let both = not_opened args.table.now args.text.now
@@ -51,7 +51,7 @@ pub returns-then-last-ge-VISIT : goal.returns-then-last-ge-VISIT
 returns-then-last-ge-VISIT c =
     let args = c.args in
     let whole = sym c.is_whole.ensures ∙ c.if-not-is_whole.false in
-    let status = ap (λ (x : JobRead). x.status) c.read_job-read.ensures in
+    let status = ap (λ (x : Checked Job). x.status) c.read_job-read.ensures in
     let right = ap is_bad (sym status) ∙ sym c.is_bad.ensures
     ∙ c.if-is_bad.false in
     let both = not_opened args.table.now args.text.now
@@ -61,7 +61,7 @@ returns-then-last-ge-VISIT c =
 
 pub first_reading-r-requires : goal.first_reading-r-requires
 first_reading-r-requires c =
-    let status = ap (λ (x : JobRead). x.status) c.read_job-read.ensures in
+    let status = ap (λ (x : Checked Job). x.status) c.read_job-read.ensures in
     let right = ap is_bad (sym status) ∙ sym c.is_bad.ensures
     ∙ c.if-is_bad.false in
     rw c.read_job-read.ensures (read-checked _ (not-bad _ right))
@@ -70,7 +70,7 @@ pub put_visitor-requires : goal.put_visitor-requires
 put_visitor-requires c =
     let args = c.args in
     let whole = sym c.is_whole.ensures ∙ c.if-not-is_whole.false in
-    let status = ap (λ (x : JobRead). x.status) c.read_job-read.ensures in
+    let status = ap (λ (x : Checked Job). x.status) c.read_job-read.ensures in
     let right = ap is_bad (sym status) ∙ sym c.is_bad.ensures
     ∙ c.if-is_bad.false in
     let done = not-bad _ right in record {
@@ -88,7 +88,7 @@ unfolding open_answer opened
 returns c =
     let args = c.args in
     let whole = sym c.is_whole.ensures ∙ c.if-not-is_whole.false in
-    let status = ap (λ (x : JobRead). x.status) c.read_job-read.ensures in
+    let status = ap (λ (x : Checked Job). x.status) c.read_job-read.ensures in
     let right = ap is_bad (sym status) ∙ sym c.is_bad.ensures
     ∙ c.if-is_bad.false in
     let room = rw c.lowest_free-slot.ensures at c.if-slot-ge-ROOMS.false in

@@ -12,16 +12,17 @@ use borrow.Author.Tests.{lt-ltb, le-ltb}
 use lib.Dec.{T, ltb}
 use borrow.Author.Tests.{ltb-true}
 use Rattle.text.specs.Counts.{in_count}
-use Rattle.text.specs.declared.Count.{Count}
 use Rattle.text.proofs.in_count.Goals as goal
+use Rattle.std.specs.Prelude.{Ok, Err}
+use Rattle.text.specs.declared.Uncounted.{Uncounted}
 
-below : (most : ℕ) (v : ℤ) → lt_z v (pos 0) ≡ true → in_count most v ≡ Count.Out
+below : (most : ℕ) (v : ℤ) → lt_z v (pos 0) ≡ true → in_count most v ≡ (Err Uncounted.Out)
 unfolding in_count
 below most (pos n) t = absurd (omega (arith, ltb-true n 0 t))
 below most (negsuc n) t = refl
 
 above : (most : ℕ) (v : ℤ)
-    → lt_z v (pos 0) ≡ false → in_count most v ≡ cond (ltb most (nat_abs v)) Count.Out (Count.Is (nat_abs v))
+    → lt_z v (pos 0) ≡ false → in_count most v ≡ cond (ltb most (nat_abs v)) (Err Uncounted.Out) (Ok (nat_abs v))
 unfolding in_count
 above most (pos n) t = refl
 above most (negsuc n) t = absurd (true≢false t)

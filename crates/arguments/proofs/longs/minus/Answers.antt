@@ -3,10 +3,10 @@ use borrow.Author.Tests.{eq-eqb, ne_eqb}
 use mathlib.Core.Path.{sym, ap, ◌∙◌}
 use mir.Facts.{to_z-of_z}
 use Rattle.digits.specs.Number.{with_minus}
-use Rattle.digits.specs.declared.Number.{Number}
 use Rattle.arguments.specs.Longs.{long_magnitude}
 use Rattle.arguments.proofs.Values.{long-held, long-fits, minus_is, minus-fits}
 use Rattle.arguments.proofs.longs.minus.Goals as goal
+use Rattle.std.specs.Prelude.{Some}
 
 pub returns-then-not-is_long : goal.returns-then-not-is_long
 unfolding with_minus long_magnitude
@@ -36,4 +36,4 @@ returns c =
     let long = sym c.is_long.ensures ∙ c.if-not-is_long.false in
     let held = long-held long c.value_of-m.ensures in
     rw (long, ne_eqb _ _ (λ z. c.if-m-eq0.false (held.whole ∙ z)))
-    (ap Number.Is (rw (minus_is held) (to_z-of_z (minus-fits held))))
+    (ap Some (rw (minus_is held) (to_z-of_z (minus-fits held))))

@@ -1,6 +1,6 @@
 -- `checks::body_lines` meets its contract: the answers of its calls, joined in order.
 use mathlib.Core.Path.{◌≡◌}
-use Rattle.faults.specs.declared.Status.{Status}
+use Rattle.faults.specs.Checked.{Status}
 use Rattle.faults.specs.Checks.{and_then}
 use Rattle.faults.proofs.Laws.{line_same}
 use Rattle.checks.specs.Checks.{line_check, job_line_status, body_lines}

@@ -2,7 +2,7 @@
 -- its limit.
 use mathlib.Core.Path.{◌≡◌, sym, ap, ◌∙◌}
 use mathlib.Core.Bool.{true, false}
-use Rattle.faults.specs.declared.Status.{Status}
+use Rattle.faults.specs.Checked.{Status}
 use Rattle.faults.specs.Checks.{is_bad, and_then}
 use Rattle.faults.proofs.Laws.{not-bad, bad-first, good-first, done_next, fine-first}
 use Rattle.faults.proofs.Laws.{fine-line, line_same, fine-skips, then-assoc}

@@ -1,11 +1,12 @@
 -- `floodrafter_c::screens::floodrafter_room_open` meets its contract.
 use Prim.Native.Nat.{ℕ}
 use mathlib.Core.Path.{◌≡◌, refl, ◌∙◌}
-use Rattle.faults.specs.declared.Status.{Status}
+use Rattle.faults.specs.Checked.{Status}
 use Rattle.room_form.specs.declared.Opened as rooms
 use Rattle.room_form.specs.Calls.{open_answer}
 use Rattle.floodrafter_c.specs.Screens.{opened_by}
 use Rattle.floodrafter_c.proofs.screens.floodrafter_room_open.Goals as goal
+use Rattle.std.specs.Prelude.{Ok, Err}
 
 -- what opening answers, as numbers
 as-numbers : (st : Status) (slot visit : ℕ) {o : rooms.Opened} → o ≡ open_answer st slot visit
@@ -16,8 +17,8 @@ as-numbers st slot visit e = rw e (go st)
     go : (s : Status)
         → opened_by (open_answer s slot visit).status (open_answer s slot visit).slot (open_answer s slot visit).visit
         ≡ opened_by s slot visit
-    go Status.Done = refl
-    go (Status.Refused f line) = refl
+    go (Ok tt) = refl
+    go (Err r) = refl
 
 pub returns : goal.returns
 returns c = record {

@@ -1,5 +1,5 @@
 -- `line_read::counts::judged` meets its contract.
-use Rattle.reading.specs.Got.{after}
+use Rattle.reading.specs.Results.{after}
 use Rattle.line_read.proofs.counts.judged.Goals as goal
 
 pub returns-in-Fine : goal.returns-in-Fine

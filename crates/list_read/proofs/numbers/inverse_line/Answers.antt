@@ -12,7 +12,7 @@ use Rattle.lines.proofs.Squares.{square-fits}
 use Rattle.line_read.specs.At.{rows_at}
 use Rattle.line_read.proofs.Checked.{checked-line}
 use Rattle.list_read.proofs.Spelled.{after-spells, row-spells}
-use Rattle.reading.specs.Got.{after}
+use Rattle.reading.specs.Results.{after}
 use Rattle.list_read.proofs.numbers.inverse_line.Goals as goal
 
 pub overflow_mul-n : goal.overflow_mul-n

@@ -1,5 +1,5 @@
 -- `list_read::numbers::judged_rows` meets its contract.
-use Rattle.reading.specs.Got.{after}
+use Rattle.reading.specs.Results.{after}
 use Rattle.list_read.proofs.numbers.judged_rows.Goals as goal
 
 pub returns-in-Fine : goal.returns-in-Fine

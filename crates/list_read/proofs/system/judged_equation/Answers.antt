@@ -1,5 +1,5 @@
 -- `list_read::system::judged_equation` meets its contract.
-use Rattle.reading.specs.Got.{after}
+use Rattle.reading.specs.Results.{after}
 use Rattle.list_read.proofs.system.judged_equation.Goals as goal
 
 pub returns-in-Fine : goal.returns-in-Fine

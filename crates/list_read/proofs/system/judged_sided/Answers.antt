@@ -1,6 +1,6 @@
 -- `list_read::system::judged_sided` meets its contract.
 use mir.Facts.{to_z-of_z}
-use Rattle.reading.specs.Got.{after}
+use Rattle.reading.specs.Results.{after}
 use Rattle.list_read.proofs.system.judged_sided.Goals as goal
 
 pub returns-in-Fine : goal.returns-in-Fine

@@ -11,7 +11,7 @@ use Rattle.lines.specs.Lines.{numbers_of, sided_by, sided_of}
 use Rattle.line_read.specs.At.{sided_at}
 use Rattle.line_read.proofs.Checked.{checked-line}
 use Rattle.list_read.proofs.Spelled.{after-spells, row-spells}
-use Rattle.reading.specs.Got.{after}
+use Rattle.reading.specs.Results.{after}
 use borrow.Author.Rules.{rules}
 use Rattle.list_read.proofs.system.sided_line.Goals as goal
 

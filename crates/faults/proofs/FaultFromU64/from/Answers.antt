@@ -1,7 +1,7 @@
--- `faults::fault_of` meets its contract.
+-- A fault from its number.
 use borrow.Author.Tests.{ne_eqb}
 use Rattle.faults.specs.Words.{fault_of}
-use Rattle.faults.proofs.fault_of.Goals as goal
+use Rattle.faults.proofs.FaultFromU64.from.Goals as goal
 
 pub returns-in-1 : goal.returns-in-1
 unfolding fault_of
