@@ -1,4 +1,4 @@
 pub mod Bytes
 pub mod Digits
-pub mod (Option ℤ)
+pub mod Number
 pub mod Show

@@ -11,49 +11,24 @@ pub const DIGITS: usize = 9;
 // So many digits always fit a number of 64 bits.
 pub const LONG: usize = 18;
 
-// A number with no sign, or none.
-#[derive(Clone, Copy)]
-pub enum Magnitude {
-    Is(u32),
-    Bad,
-}
-
-// A signed number, or none.
-#[derive(Clone, Copy)]
-pub enum Number {
-    Is(i64),
-    Bad,
-}
-
-// (In this form the compiler tests and takes a digit by one difference.)
+#[tactic(auto, unfolding(crate::specs::Digits::is_digit))]
 pub fn is_digit(b: u8) -> bool
     ensures { result ≡ is_digit b }
 {
-    if b'0' <= b {
-        return b <= b'9';
-    }
-    false
+    b'0' <= b && b <= b'9'
 }
 
 pub fn all_digits(s: &[u8]) -> bool
     ensures { result ≡ all_digits s.now }
 {
-    for k in 0..s.len() {
-        if !is_digit(s[k]) {
-            return false;
-        }
-    }
-    true
+    s.iter().all(|b| is_digit(*b))
 }
 
 // What a digit stands for.
 pub fn digit(b: u8) -> u8
     ensures { result ≡ b - digit0 }
 {
-    if b < b'0' {
-        return 0;
-    }
-    b - b'0'
+    b.saturating_sub(b'0')
 }
 
 // The digits' part of a number of at most LONG digits.
@@ -61,8 +36,5 @@ pub fn abs(v: i64) -> u64
     requires { nat_abs v < 10 ^ long_max }
     ensures { result ≡ nat_abs v }
 {
-    if v < 0 {
-        return (0 - v) as u64;
-    }
-    v as u64
+    v.unsigned_abs()
 }
