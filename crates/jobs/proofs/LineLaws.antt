@@ -16,6 +16,9 @@ pin-lines-few h = go (pin_stands h.kind h.n h.pin)
     go true = omega arith
     go false = omega arith
 
+-- for the functions whose proofs need it
+pub ruleset few_pins = (pin-lines-few)
+
 -- the line after n is line 4
 pub after-n-fourth : (h : Head) → job_number (after_n h.kind) h ≡ 4
 unfolding pin_lines

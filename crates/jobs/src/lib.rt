@@ -8,7 +8,7 @@ pub mod zero;
 use sizes::{N, TERMS};
 
 // "The system is a polynomial one, a linear one (A x = b) or an eigenpair of a matrix."
-#[derive(Clone, Copy)]
+#[derive(Clone, Copy, PartialEq, Eq)]
 pub enum Kind {
     Poly,
     Linear,
@@ -73,7 +73,7 @@ pub struct Job {
 
 // The kinds of lines of a job text, in their order; Pin is the line after n of an eigenpair's, its pin or, where none
 // is written, its lo; a line of the system with its place, from 0; End where no line is left.
-#[derive(Clone, Copy)]
+#[derive(Clone, Copy, PartialEq, Eq)]
 pub enum JobLine {
     Number,
     Kind,
@@ -87,7 +87,7 @@ pub enum JobLine {
     End,
 }
 
-#[derive(Clone, Copy)]
+#[derive(Clone, Copy, PartialEq, Eq)]
 pub enum Verdict {
     None,
     Unique,
@@ -108,7 +108,7 @@ pub struct Result {
 }
 
 // The kinds of lines of a result text, in their order; End where no line is left.
-#[derive(Clone, Copy)]
+#[derive(Clone, Copy, PartialEq, Eq)]
 pub enum ResultLine {
     Number,
     Visit,

@@ -11,14 +11,13 @@ use crate::{Head, JobLine, Kind, ResultLine};
 pub fn pin_written(head: Head) -> bool
     ensures { result ≡ pin_stands head.kind head.n head.pin }
 {
-    let kind = head.kind;
-    match kind {
-        Kind::Poly => false,
-        Kind::Linear => false,
+    match head.kind {
+        Kind::Poly | Kind::Linear => false,
         Kind::Eigen => head.pin != head.n,
     }
 }
 
+#[tactic(auto, unfolding(crate::specs::Lines::pin_lines))]
 fn pin_lines(head: Head) -> u64
     ensures { result ≡ pin_lines head }
 {
@@ -30,8 +29,7 @@ pub fn last_pin(kind: Kind, n: usize) -> usize
     ensures { result ≡ last_pin kind n }
 {
     match kind {
-        Kind::Poly => 0,
-        Kind::Linear => 0,
+        Kind::Poly | Kind::Linear => 0,
         Kind::Eigen => n,
     }
 }
@@ -41,12 +39,12 @@ pub fn after_n(kind: Kind) -> JobLine
     ensures { result ≡ after_n kind }
 {
     match kind {
-        Kind::Poly => JobLine::Lo,
-        Kind::Linear => JobLine::Lo,
+        Kind::Poly | Kind::Linear => JobLine::Lo,
         Kind::Eigen => JobLine::Pin,
     }
 }
 
+#[tactic(auto, using(crate::proofs::LineLaws::few_pins))]
 pub fn steps_number(head: Head) -> u64
     ensures { result ≡ steps_number head }
 {
@@ -54,6 +52,7 @@ pub fn steps_number(head: Head) -> u64
 }
 
 // Line i of the system.
+#[tactic(auto, using(crate::proofs::LineLaws::few_pins))]
 pub fn system_number(head: Head, i: usize) -> u64
     requires { i ≤ n_max }
     ensures { result ≡ system_number head i }
@@ -61,6 +60,7 @@ pub fn system_number(head: Head, i: usize) -> u64
     steps_number(head) + 1 + i as u64
 }
 
+#[tactic(auto, using(crate::proofs::LineLaws::few_pins))]
 pub fn job_line_number(k: JobLine, head: Head) -> u64
     requires { LineFits k head }
     ensures { result ≡ job_number k head }
@@ -93,66 +93,39 @@ pub fn result_line_number(k: ResultLine) -> u64
     }
 }
 
-// The line of a job text that has this number: the first whose number is not below it.
+// The line of a job text that has this number: the first stands for 0, and End for what is past the last.
+#[tactic(auto, using(crate::proofs::LineLaws::few_pins))]
 pub fn job_line_of(line: u64, head: Head) -> JobLine
     requires { head.n ≤ n_max }
     ensures { JobNumbered line head result }
 {
-    if line <= job_line_number(JobLine::Number, head) {
-        return JobLine::Number;
+    match line {
+        0 | 1 => JobLine::Number,
+        2 => JobLine::Kind,
+        3 => JobLine::Unknowns,
+        4 => after_n(head.kind),
+        _ => match line - pin_lines(head) {
+            4 => JobLine::Lo,
+            5 => JobLine::Hi,
+            6 => JobLine::Inv,
+            7 => JobLine::Steps,
+            m if m - 8 < head.n as u64 => JobLine::System((m - 8) as usize),
+            _ => JobLine::End,
+        },
     }
-    if line <= job_line_number(JobLine::Kind, head) {
-        return JobLine::Kind;
-    }
-    if line <= job_line_number(JobLine::Unknowns, head) {
-        return JobLine::Unknowns;
-    }
-    let kind = head.kind;
-    let fourth = after_n(kind);
-    if line <= job_line_number(fourth, head) {
-        return fourth;
-    }
-    if line <= job_line_number(JobLine::Lo, head) {
-        return JobLine::Lo;
-    }
-    if line <= job_line_number(JobLine::Hi, head) {
-        return JobLine::Hi;
-    }
-    if line <= job_line_number(JobLine::Inv, head) {
-        return JobLine::Inv;
-    }
-    if line <= job_line_number(JobLine::Steps, head) {
-        return JobLine::Steps;
-    }
-    for i in 0..head.n {
-        if line <= job_line_number(JobLine::System(i), head) {
-            return JobLine::System(i);
-        }
-    }
-    JobLine::End
 }
 
 // The same of a result text.
 pub fn result_line_of(line: u64) -> ResultLine
     ensures { ResultNumbered line result }
 {
-    if line <= result_line_number(ResultLine::Number) {
-        return ResultLine::Number;
+    match line {
+        0 | 1 => ResultLine::Number,
+        2 => ResultLine::Visit,
+        3 => ResultLine::Verdict,
+        4 => ResultLine::Steps,
+        5 => ResultLine::Lo,
+        6 => ResultLine::Hi,
+        _ => ResultLine::End,
     }
-    if line <= result_line_number(ResultLine::Visit) {
-        return ResultLine::Visit;
-    }
-    if line <= result_line_number(ResultLine::Verdict) {
-        return ResultLine::Verdict;
-    }
-    if line <= result_line_number(ResultLine::Steps) {
-        return ResultLine::Steps;
-    }
-    if line <= result_line_number(ResultLine::Lo) {
-        return ResultLine::Lo;
-    }
-    if line <= result_line_number(ResultLine::Hi) {
-        return ResultLine::Hi;
-    }
-    ResultLine::End
 }

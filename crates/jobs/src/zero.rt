@@ -18,10 +18,9 @@ pub fn zero_term() -> Term
 pub fn zero_equation() -> Equation
     ensures { result ≡ zero_equation }
 {
-    let t = zero_term();
     Equation {
         count: 0,
-        terms: [t; TERMS],
+        terms: [zero_term(); TERMS],
     }
 }
 
@@ -54,11 +53,9 @@ pub fn zero_ends() -> Ends
 pub fn zero_body() -> Body
     ensures { result ≡ zero_body }
 {
-    let equation = zero_equation();
-    let row = zero_row();
     Body {
-        eqs: [equation; N],
-        rows: [row; N],
+        eqs: [zero_equation(); N],
+        rows: [zero_row(); N],
         right: [0; N],
     }
 }
@@ -66,11 +63,10 @@ pub fn zero_body() -> Body
 pub fn no_job() -> Job
     ensures { result ≡ no_job }
 {
-    let row = zero_row();
     Job {
         head: zero_head(),
         ends: zero_ends(),
-        inv: [row; N],
+        inv: [zero_row(); N],
         steps: 0,
         system: zero_body(),
     }
