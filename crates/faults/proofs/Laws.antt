@@ -7,7 +7,7 @@ use native.Mathlib.Nat.{not-suc-le-zero, le_of_suc-le-suc, le_antisymm, eq-or-lt
 use native.Mathlib.Numerals.{add-one}
 use native.Mathlib.Omega.{arith}
 use Rattle.faults.specs.declared.Fault.{Fault}
-use Rattle.faults.specs.Checked.{Finding, Status}
+use Rattle.faults.specs.Checked.{Finding, Checked, Status, status_of, value_or}
 use Rattle.faults.specs.Checks.{is_fine, bad_unless, first_of, on_line, is_bad, and_then, lines_of}
 use Rattle.std.specs.Prelude.{Ok, Err}
 
@@ -101,6 +101,11 @@ done_next s t e = sym (good-first s t (done_first s t e)) ∙ e
 
 pub both-done : {s t : Status} → s ≡ Ok tt → t ≡ Ok tt → and_then s t ≡ Ok tt
 both-done {s} {t} h e = good-first s t h ∙ e
+
+-- ---- a value, or what refuses it
+pub done-value : {A : Type 0} (none : A) (r : Checked A) → status_of r ≡ Ok tt → r ≡ Ok (value_or none r)
+done-value none (Ok x) e = refl
+done-value none (Err r) e = absurd (zero_one (cc))
 
 -- n lines, and a loop over them that stops at the first bad one
 module _ (f : ℕ → Status) where
