@@ -8,17 +8,9 @@ pub mod standard;
 ghost use Rattle.std.specs.Prelude.{◌≤◌, length, take, IfOk, OnErr, OnOk};
 ghost use Rattle.std.specs.Io.KnownBytes.{Appends, Keeps};
 
-use itoa::Buffer;
 use std::io;
 use std::io::{Error, ErrorKind, Read, Write};
 use std::thread::yield_now;
-
-// How many bytes came, none where the input has ended or the read failed.
-#[derive(Clone, Copy)]
-pub struct Came {
-    pub n: usize,
-    pub failed: Option<Error>,
-}
 
 // A call that fails so is made again. Others run before one that was not ready.
 fn passing(error: &Error) -> bool {
@@ -32,49 +24,33 @@ fn passing(error: &Error) -> bool {
     }
 }
 
-// Nothing says that such calls end, so the turns are counted, up to a number that no run comes to.
-fn read_once<R: Read>(from: &mut R, buf: &mut [u8]) -> io::Result<usize>
+// What there is of the input, no byte where it has ended. Nothing says that such calls end, so the turns are counted, up
+// to a number that no run comes to.
+pub fn read_some<R: Read>(from: &mut R, buf: &mut [u8]) -> io::Result<usize>
     ensures { IfOk result (λ n. n ≤ length buf.old) }
 {
     for _ in 0..u64::MAX {
         match from.read(buf) {
-            Ok(n) => return Ok(n),
             Err(e) if passing(&e) => {}
-            Err(e) => return Err(e),
+            ended => return ended,
         }
     }
     Err(Error::from(ErrorKind::TimedOut))
 }
 
-// What there is of the input.
-pub fn read_some<R: Read>(from: &mut R, buf: &mut [u8]) -> Came
-    ensures { result.n ≤ length buf.old }
-{
-    match read_once(from, buf) {
-        Ok(n) => Came { n, failed: None },
-        Err(e) => Came {
-            n: 0,
-            failed: Some(e),
-        },
-    }
-}
-
 // The input's next bytes, until the buffer is full or the input ends.
-pub fn fill<R: Read>(from: &mut R, buf: &mut [u8]) -> Came
-    ensures { result.n ≤ length buf.old }
+pub fn fill<R: Read>(from: &mut R, buf: &mut [u8]) -> io::Result<usize>
+    ensures { IfOk result (λ n. n ≤ length buf.old) }
 {
     let mut n = 0;
     while n < buf.len() {
-        let more = read_some(from, &mut buf[n..]);
-        if more.n == 0 {
-            return Came {
-                n,
-                failed: more.failed,
-            };
+        let more = read_some(from, &mut buf[n..])?;
+        if more == 0 {
+            return Ok(n);
         }
-        n += more.n;
+        n += more;
     }
-    Came { n, failed: None }
+    Ok(n)
 }
 
 fn write_once<W: Write>(to: &mut W, bytes: &[u8]) -> io::Result<usize>
@@ -84,9 +60,8 @@ fn write_once<W: Write>(to: &mut W, bytes: &[u8]) -> io::Result<usize>
 {
     for _ in 0..u64::MAX {
         match to.write(bytes) {
-            Ok(n) => return Ok(n),
             Err(e) if passing(&e) => {}
-            Err(e) => return Err(e),
+            ended => return ended,
         }
     }
     Err(Error::from(ErrorKind::TimedOut))
@@ -96,34 +71,33 @@ fn write_once<W: Write>(to: &mut W, bytes: &[u8]) -> io::Result<usize>
 pub fn write_whole<W: Write>(to: &mut W, bytes: &[u8]) -> io::Result<()>
     ensures { OnOk result (Appends (W.contents to.old) (W.contents to.new) bytes.now) }
 {
-    let mut at = 0;
-    while at < bytes.len() {
-        let n = write_once(to, &bytes[at..])?;
+    let mut rest = bytes;
+    while !rest.is_empty() {
+        let n = write_once(to, rest)?;
         if n == 0 {
             return Err(Error::from(ErrorKind::WriteZero));
         }
-        at += n;
+        rest = &rest[n..];
     }
     Ok(())
 }
 
-// An answer, on standard output.
-pub fn put<W: Write>(out: &mut W, bytes: &[u8]) -> io::Result<()>
-    ensures { OnOk result (Appends (W.contents out.old) (W.contents out.new) bytes.now) }
-{
-    write_whole(out, bytes)
-}
+// A writer of whole answers: it waits, and so does `write!` to it.
+#[derive(Drop)]
+pub struct Whole<W>(pub W);
 
-// Nobody can be told where standard error itself fails.
-pub fn say<W: Write>(err: &mut W, words: &[u8]) {
-    let _ = write_whole(err, words);
-}
+impl<W: Write> Write for Whole<W> {
+    ghost contents = { λ whole. W.contents whole.0 };
 
-pub fn write_number<W: Write>(to: &mut W, v: u64) -> io::Result<()> {
-    let mut digits = Buffer::new();
-    write_whole(to, digits.format(v).as_bytes())
-}
+    fn write(&mut self, bytes: &[u8]) -> io::Result<usize> {
+        write_once(&mut self.0, bytes)
+    }
 
-pub fn say_number<W: Write>(err: &mut W, v: u64) {
-    let _ = write_number(err, v);
+    fn flush(&mut self) -> io::Result<()> {
+        self.0.flush()
+    }
+
+    fn write_all(&mut self, bytes: &[u8]) -> io::Result<()> {
+        write_whole(&mut self.0, bytes)
+    }
 }

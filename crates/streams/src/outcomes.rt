@@ -18,22 +18,22 @@ pub enum Outcome {
     Unwritten(Error),
 }
 
-fn digit(outcome: Outcome) -> u8
-    ensures { result ≡ status_of outcome }
-{
-    match outcome {
-        Outcome::Answered => 0,
-        Outcome::Fault => 1,
-        Outcome::NotRun => 2,
-        Outcome::Unread(_) => 2,
-        Outcome::Unwritten(_) => 2,
+impl From<Outcome> for u8 {
+    ghost from_gives = { λ outcome status. status ≡ status_of outcome };
+
+    fn from(outcome: Outcome) -> u8 {
+        match outcome {
+            Outcome::Answered => 0,
+            Outcome::Fault => 1,
+            Outcome::NotRun | Outcome::Unread(_) | Outcome::Unwritten(_) => 2,
+        }
     }
 }
 
 pub fn hand_over(outcome: Outcome) -> ExitCode
     ensures { exit_status result ≡ status_of outcome }
 {
-    ExitCode::from(digit(outcome))
+    ExitCode::from(u8::from(outcome))
 }
 
 // Where all that was to be written is, or is not.
