@@ -5,15 +5,14 @@ use Prim.Native.Nat.{ℕ, ◌<◌, ◌-◌}
 use native.Mathlib.Nat.{le_of_lt}
 use lib.Dec.{T, ltb, ltb→lt, lit<}
 use lib.IntN.{ℤ, pos, ◌+ℤ◌}
-use lib.Signed.{quot_z}
 use mir.Syntax.{w64}
+use mir.Facts.{to_z-of_z}
 use mir.Val.{SFits}
 use Rattle.sizes.specs.Bounds.{up_max}
 use Rattle.integers.specs.Ranges.{Within}
 use Rattle.integers.specs.Rounding.{floor_by, ceil_by}
-use Rattle.integers.proofs.Division.{quot-within}
+use Rattle.integers.proofs.Division.{shr-fits, shr-floor}
 use Rattle.integers.proofs.Linear.{zlin}
-use Rattle.integers.proofs.Machine.{sfits-within}
 use Rattle.integers.proofs.Parts.{zorder}
 use Rattle.integers.proofs.Ranges.{fits, within-add}
 use Rattle.integers.proofs.Rounding.{floor-le, floor-lt, ceil-unique}
@@ -22,12 +21,8 @@ use Rattle.intervals.specs.Interval.{mark}
 pub some : 0 < mark
 some = lit< tt
 
-module _ {x : ℤ} (h : SFits w64 x) where
-  pub quot_fits : SFits w64 (quot_z x (pos mark))
-  quot_fits = fits (quot-within mark some (sfits-within h)) tt
-
-  pub near_fits : (d : ℤ) → Within d 1 → SFits w64 (quot_z x (pos mark) +ℤ d)
-  near_fits d k = fits (within-add (quot-within mark some (sfits-within h)) k) tt
+-- a shift, which is the division rounded down
+pub ruleset shifts = (to_z-of_z, shr-fits, shr-floor)
 
 -- what can be rounded up takes less than a mark more
 pub rest-fits : {x : ℤ} → Within x up_max → (d : ℕ) → T (ltb d mark) → SFits w64 (x +ℤ pos d)

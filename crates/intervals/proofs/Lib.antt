@@ -2,6 +2,7 @@ pub mod Ends
 pub mod Division
 pub mod Rounding
 pub mod Sums
+pub mod Least
 pub mod Meeting
 pub mod Ranges
 pub mod Hold

@@ -2,13 +2,10 @@
 use mathlib.Core.Path.{◌∙◌}
 use Prim.Native.Nat.{◌-◌}
 use mir.Facts.{to_z-of_z}
-use Rattle.integers.proofs.Machine.{back, got}
+use Rattle.integers.proofs.Machine.{got}
 use Rattle.intervals.specs.Interval.{mark}
 use Rattle.intervals.proofs.Division.{rest-fits, floor-up}
 use Rattle.intervals.proofs.ceil_div.Goals as goal
-
-pub overflow_add-x : goal.overflow_add-x
-overflow_add-x c = rw (back c.ranges.x) (rest-fits c.requires _ tt)
 
 pub returns : goal.returns
 returns c =
