@@ -19,6 +19,7 @@ use Rattle.integers.proofs.Order.{square-nonneg}
 use Rattle.integers.proofs.Ranges.{within-mul}
 use Rattle.integers.proofs.Least.{min-l, min-both, max-l, max-both}
 use Rattle.intervals.specs.declared.Interval.{Interval}
+use Rattle.intervals.proofs.Least.{choices}
 use Rattle.intervals.specs.Ranges.{InI, FitsMul, FitsTimes}
 use Rattle.intervals.proofs.Ranges.{in-more, in-out, in-mul, fits-mul, fits-times, up-within}
 use Rattle.powers.specs.Powers.{holds_zero, square_range, square_i, cube_i, power_i}
@@ -101,3 +102,6 @@ module _ {x : Interval} (h : InI end_max x) where
   pub fits-cube : FitsTimes (square_i x) x
   unfolding grow
   fits-cube = fits-times (lit≤ tt) in-square h
+
+-- what the square's code asks and takes
+pub ruleset fitting = (choices, fits-range, fits-square)

@@ -9,30 +9,30 @@ ghost use Rattle.powers.specs.Powers.{holds_zero, square_range, square_i, cube_i
 use intervals::Interval;
 
 // Both ends belong to the interval.
+#[tactic(auto, unfolding(crate::specs::Powers::holds_zero))]
 pub fn holds_zero(x: Interval) -> bool
     ensures { result ≡ holds_zero x }
 {
-    if x.lo <= 0 { 0 <= x.hi } else { false }
+    x.lo <= 0 && 0 <= x.hi
 }
 
 // The exact range of the square.
+#[tactic(auto, using(crate::proofs::Ranges::fitting), unfolding(crate::specs::Powers::square_range))]
 pub fn square_range(x: Interval) -> Interval
     requires { InI end_max x }
     ensures { result ≡ square_range x }
 {
-    let l = x.lo;
-    let h = x.hi;
-    let p = l * l;
-    let q = h * h;
-    let hi = intervals::greatest(p, q);
-    let around = holds_zero(x);
-    if around {
-        return Interval { lo: 0, hi: hi };
+    let p = x.lo * x.lo;
+    let q = x.hi * x.hi;
+    let hi = p.max(q);
+    if holds_zero(x) {
+        Interval { lo: 0, hi }
+    } else {
+        Interval { lo: p.min(q), hi }
     }
-    let lo = intervals::least(p, q);
-    Interval { lo: lo, hi: hi }
 }
 
+#[tactic(auto, using(crate::proofs::Ranges::fitting), unfolding(crate::specs::Powers::square_i))]
 pub fn square(x: Interval) -> Interval
     requires { InI end_max x }
     ensures { result ≡ square_i x }
@@ -41,6 +41,7 @@ pub fn square(x: Interval) -> Interval
 }
 
 // The square is rounded before it is multiplied.
+#[tactic(auto, unfolding(crate::specs::Powers::cube_i))]
 pub fn cube(x: Interval) -> Interval
     requires { InI end_max x }
     ensures { result ≡ cube_i x }
@@ -49,15 +50,14 @@ pub fn cube(x: Interval) -> Interval
 }
 
 // x to the power of e, for an exponent of at least 1.
+#[tactic(auto, unfolding(crate::specs::Powers::power_i))]
 pub fn power(x: Interval, e: u8) -> Interval
     requires { InI end_max x }
     ensures { result ≡ power_i e x }
 {
-    if e < 2 {
-        return x;
+    match e {
+        0 | 1 => x,
+        2 => square(x),
+        _ => cube(x),
     }
-    if e == 2 {
-        return square(x);
-    }
-    cube(x)
 }
