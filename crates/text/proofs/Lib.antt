@@ -1,6 +1,7 @@
 pub mod Cuts
 pub mod Ends
 pub mod Keys
+pub mod Slices
 pub mod Pieces
 pub mod Counts
 pub mod Lists

@@ -13,7 +13,7 @@ use Rattle.digits.specs.Number.{digits_max, read_number}
 use Rattle.digits.specs.Show.{show_signed, show_number}
 use Rattle.digits.proofs.ReadBack.{number-back}
 use Rattle.digits.proofs.WriteBack.{number-was}
-use Rattle.text.specs.declared.Numbers.{Numbers}
+use Rattle.text.specs.Lists.{Numbers}
 use Rattle.text.specs.Lists.{places_max, no_numbers, put_number, add_read, add_field}
 use Rattle.text.specs.Lists.{last_field, read_list, joined, show_all, show_list, Below, Small}
 use Rattle.text.proofs.Pieces.{Above, AllAbove, above-append, commas-above, number-above}

@@ -1,16 +1,20 @@
 -- "Lists are joined by commas."
-use Rattle.std.specs.Prelude.{ℕ, ◌+◌, ◌*◌, ◌^◌, ◌<◌, List, [], ◌∷◌, ◌++◌, map, true, false, set, replicate, ℤ, pos, nat_abs, Some, None}
-use Rattle.std.specs.Prelude.{Option}
+use Rattle.std.specs.Prelude.{ℕ, ◌+◌, ◌*◌, ◌^◌, ◌<◌, List, [], ◌∷◌, ◌++◌, map, true, false, Bool, set, replicate, ℤ, pos, nat_abs, Option, Some, None}
 use Rattle.sizes.specs.Sizes.{n_max}
 use Rattle.digits.specs.Bytes.{comma}
 use Rattle.digits.specs.Number.{digits_max, read_number}
 use Rattle.digits.specs.Show.{show_signed}
 use Rattle.text.specs.Cut.{Cut, fresh, feeds}
-use Rattle.text.specs.declared.Numbers.{Numbers}
 
 -- as many as `inv` has
 abbrev pub places_max : ℕ
 places_max = n_max * n_max
+
+-- the numbers of a list: whether each is well spelled, how many there are, and the first of them
+pub record Numbers : Type 0 where
+  pub ok : Bool
+  pub count : ℕ
+  pub vals : List ℤ
 
 -- no number yet
 unfoldable pub no_numbers : Numbers
