@@ -15,8 +15,7 @@ use Rattle.digits.specs.Show.{show_magnitude, show_signed}
 use Rattle.digits.proofs.ReadBack.{number-back}
 use Rattle.text.specs.Keys.{body_of}
 use Rattle.text.specs.Counts.{in_count, count_of}
-use Rattle.text.specs.Lists.{places_max, read_list, joined, show_all, show_list, Below, Small}
-use Rattle.text.specs.declared.Numbers.{Numbers}
+use Rattle.text.specs.Lists.{Numbers, places_max, read_list, joined, show_all, show_list, Below, Small}
 use Rattle.digits.specs.Bytes.{line_feed}
 use Rattle.text.proofs.Pieces.{Above, above-append, magnitude-above}
 use Rattle.text.proofs.Keys.{body_own}
@@ -26,7 +25,7 @@ use Rattle.text.proofs.ListLines.{no-list, list-line}
 use Rattle.reading.specs.Results.{Told, refuse}
 use Rattle.reading.specs.NumberLines.{placed, counted, count_line, listed, list_line, rowed, row_line}
 use Rattle.reading.proofs.Told.{not-false, told-got, told-fault, told-unless}
-use Rattle.std.specs.Prelude.{Ok, Err, Some}
+use Rattle.std.specs.Prelude.{Ok, Err, Some, Result}
 use Rattle.text.specs.declared.Uncounted.{Uncounted}
 
 -- ---- no line of numbers holds an LF

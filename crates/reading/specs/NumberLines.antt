@@ -4,19 +4,14 @@ use Rattle.lists.specs.Loops.{tab}
 use Rattle.digits.specs.Number.{read_number}
 use Rattle.text.specs.Keys.{body_of}
 use Rattle.text.specs.Counts.{count_of}
-use Rattle.text.specs.Lists.{read_list}
-use Rattle.text.specs.declared.Numbers.{Numbers}
+use Rattle.text.specs.Lists.{Numbers, read_list}
+use Rattle.reading.specs.declared.Listed.{Listed}
 use Rattle.reading.specs.Results.{refuse}
 use Rattle.text.specs.declared.Uncounted.{Uncounted}
 
 -- the first n numbers in m places, and zeros past them
 abbrev pub placed : ℕ → ℕ → List ℤ → List ℤ
 placed m n xs = tab m n (pos 0) (λ i. get_or xs i (pos 0))
-
--- numbers, and how many there are
-pub record Listed : Type 0 where
-  pub count : ℕ
-  pub row : List ℤ
 
 module _ {F : Type 0} (odd : F) where
   -- a number from 0 to its limit
