@@ -1,11 +1,10 @@
 -- Laws of a written list, as a loop over its places takes them.
 use Prim.Native.Nat.{ℕ, zero, suc, ◌+◌, ◌*◌, ◌≤◌, ◌<◌, ◌^◌}
 use native.Mathlib.Omega.{arith}
-use native.Mathlib.Numerals.{add-one}
-use mathlib.Core.Path.{◌≡◌, refl, ap}
-use mathlib.Core.List.{List, [], ◌∷◌, ◌++◌, map, append_assoc, append-nil}
-use lib.ListN.{length, take, get_or, length-append, length-map, drop_of_length-le}
-use lib.Seq.{drop-cons}
+use mathlib.Core.Path.{◌≡◌, refl, sym, ap, ◌∙◌}
+use mathlib.Core.List.{List, [], ◌∷◌, ◌++◌, map, map-append, append_assoc, append-nil}
+use lib.ListN.{length, take, get_or, length-append, length-map}
+use lib.Seq.{take-suc}
 use lib.IntN.{ℤ, pos, nat_abs}
 use Rattle.lists.specs.Loops.{tab}
 use Rattle.digits.specs.Bytes.{comma}
@@ -13,7 +12,6 @@ use Rattle.digits.specs.Show.{show_signed}
 use Rattle.digits.proofs.Show.{number_short, number-under}
 use Rattle.text.specs.Lists.{after_commas, joined, show_all, Below}
 use Rattle.reading.specs.NumberLines.{placed}
-use Rattle.writing.specs.Wrote.{show_more}
 
 pub below_at : (k : ℕ) (xs : List ℤ) (i : ℕ) → Below k xs → i < length xs → nat_abs (get_or xs i (pos 0)) < 10 ^ k
 unfolding Below
@@ -28,29 +26,34 @@ taken-first zero xs h = refl
 taken-first (suc n) [] h = absurd (omega arith)
 taken-first (suc n) (x ∷ xs) h = ap (λ (l : List ℤ). x ∷ l) (taken-first n xs (omega arith))
 
-module _ (k : ℕ) where
-  -- one number more
-  pub more-one : (xs : List ℤ) (i : ℕ) (done : List ℕ) → i < length xs
-      → done ++ show_more k i xs
-      ≡ ((done ++ (comma ∷ [])) ++ show_signed k (get_or xs i (pos 0))) ++ show_more k (i + 1) xs
-  unfolding show_more after_commas
-  more-one xs i done h =
-      rw (drop-cons xs i (pos 0) h, add-one i, append_assoc (done ++ (comma ∷ [])), append_assoc done)
+-- one item more
+pub after-snoc : (xs : List (List ℕ)) (x : List ℕ)
+    → after_commas (xs ++ (x ∷ [])) ≡ (after_commas xs ++ (comma ∷ [])) ++ x
+unfolding after_commas
+after-snoc [] x = ap (λ (l : List ℕ). comma ∷ l) (append-nil x)
+after-snoc (y ∷ ys) x =
+    ap (λ (l : List ℕ). comma ∷ (y ++ l)) (after-snoc ys x)
+    ∙ ap (λ (l : List ℕ). comma ∷ l) (sym (append_assoc y (after_commas ys ++ (comma ∷ [])) x)
+    ∙ ap (λ (l : List ℕ). l ++ x) (sym (append_assoc y (after_commas ys) (comma ∷ []))))
 
-  pub more-end : (xs : List ℤ) (i : ℕ) (done : List ℕ) → length xs ≤ i → done ++ show_more k i xs ≡ done
-  unfolding show_more after_commas
-  more-end xs i done h = rw (drop_of_length-le xs h) (append-nil done)
+module _ (k : ℕ) where
+  -- the first i numbers, each after a comma
+  abbrev pub first_more : ℕ → List ℤ → List ℕ
+  first_more i xs = after_commas (map (show_signed k) (take i xs))
+
+  -- one number more
+  pub more-one : (xs : List ℤ) (i : ℕ) → i < length xs
+      → (first_more i xs ++ (comma ∷ [])) ++ show_signed k (get_or xs i (pos 0)) ≡ first_more (suc i) xs
+  more-one xs i h =
+      let v = get_or xs i (pos 0) in
+      sym (ap (λ (ys : List ℤ). after_commas (map (show_signed k) ys)) (take-suc xs i (pos 0) h)
+      ∙ ap after_commas (map-append (show_signed k) (take i xs) (v ∷ []))
+      ∙ after-snoc (map (show_signed k) (take i xs)) (show_signed k v))
 
   pub list-none : (xs : List ℤ) → length xs ≡ 0 → show_all k xs ≡ []
   unfolding show_all joined
   list-none [] e = refl
   list-none (x ∷ xs) e = absurd (omega (arith, e))
-
-  pub list-some : (xs : List ℤ) → (length xs ≡ 0 → ⊥)
-      → show_all k xs ≡ show_signed k (get_or xs 0 (pos 0)) ++ show_more k 1 xs
-  unfolding show_all joined show_more
-  list-some [] n = absurd (n refl)
-  list-some (x ∷ xs) n = refl
 
 -- ---- how long a list is
 

@@ -45,3 +45,9 @@ pub wrote-last : (l : List ℕ) {x y : List ℕ} {at r : ℕ} → Wrote x y at r
     → Wrote x y at r (end_each line_feed (l ∷ []))
 unfolding line end_each
 wrote-last l p = p
+
+-- a line: its key, what stands behind it, and LF
+pub wrote_keyed : {w x y z : List ℕ} {at r s e : ℕ} {key body : List ℕ} → Wrote w x at r key → Wrote x y r s body
+    → Wrote y z s e (line_feed ∷ []) → Wrote w z at e (line (key ++ body))
+unfolding line
+wrote_keyed key body feed = wrote-append (wrote-append key body) feed

@@ -1,11 +1,10 @@
 -- What a writer does to a buffer.
-use Rattle.std.specs.Prelude.{ℕ, ◌+◌, ◌*◌, ◌≤◌, ◌<◌, ◌≡◌, List, [], ◌∷◌, ◌++◌, map, length, drop, ℤ}
+use Rattle.std.specs.Prelude.{ℕ, ◌+◌, ◌*◌, ◌≤◌, ◌<◌, ◌≡◌, List, [], ◌∷◌, ◌++◌, length, ℤ}
 use Rattle.std.proofs.lemmas.List.Edits.{sets}
 use Rattle.sizes.specs.Sizes.{n_max}
 use Rattle.digits.specs.Bytes.{line_feed}
 use Rattle.digits.specs.Number.{long_max}
-use Rattle.digits.specs.Show.{show_signed}
-use Rattle.text.specs.Lists.{after_commas, Below}
+use Rattle.text.specs.Lists.{Below}
 use Rattle.reading.specs.NumberLines.{placed}
 
 -- no text reaches this place, and a usize holds far more
@@ -16,10 +15,6 @@ place_max = 1000000
 pub record Wrote (old new : List ℕ) (at r : ℕ) (bs : List ℕ) : Type 0 where
   pub next : r ≡ at + length bs
   pub text : new ≡ sets old at bs
-
--- the numbers from place i on, of at most k digits each, each after a comma
-unfoldable pub show_more : ℕ → ℕ → List ℤ → List ℕ
-show_more k i xs = after_commas (map (show_signed k) (drop i xs))
 
 -- "Lines end in one LF"
 unfoldable pub line : List ℕ → List ℕ

@@ -2,15 +2,15 @@
 // functions measure a text.
 #![tactic(auto)]
 
-ghost use Rattle.std.specs.Prelude.{◌≡◌, [], ◌∷◌, ◌++◌, ◌+◌, ◌*◌, ◌≤◌, ◌<◌, ◌^◌, length, nat_abs};
+ghost use Rattle.std.specs.Prelude.{[], ◌∷◌, ◌++◌, ◌≡◌, ◌+◌, ◌*◌, ◌≤◌, ◌<◌, ◌^◌, length, map, nat_abs};
 ghost use Rattle.faults.specs.Answer.{Leaves};
 ghost use Rattle.digits.specs.Number.{digits_max, long_max};
 ghost use Rattle.digits.specs.Show.{show_magnitude, show_signed};
-ghost use Rattle.text.specs.Lists.{show_all, Below};
+ghost use Rattle.text.specs.Lists.{after_commas, show_all, Below};
 ghost use Rattle.reading.specs.NumberLines.{placed};
-ghost use Rattle.writing.specs.Wrote.{place_max, Wrote, show_more, line, RowFits};
+ghost use Rattle.writing.specs.Wrote.{place_max, Wrote, line, RowFits};
 
-use faults::{Fault, Status, Written};
+use faults::{Checked, Fault, refused};
 use sizes::N;
 
 // One byte at its place, if there is one.
@@ -20,7 +20,6 @@ pub fn put_byte(buf: &mut [u8], at: usize, b: u8) -> usize
 {
     if at < buf.len() {
         buf[at] = b;
-        return at + 1;
     }
     at + 1
 }
@@ -31,10 +30,8 @@ pub fn put_bytes(buf: &mut [u8], at: usize, bs: &[u8]) -> usize
     ensures { Wrote buf.old buf.new at result bs.now }
 {
     let mut p = at;
-    let mut i = 0;
-    while i < bs.len() {
-        p = put_byte(buf, p, bs[i]);
-        i += 1;
+    for b in bs {
+        p = put_byte(buf, p, *b);
     }
     p
 }
@@ -45,13 +42,11 @@ fn digits_of(m: u64, k: usize) -> usize
 {
     let tenth = m / 10;
     let mut bound: u64 = 1;
-    let mut i = 0;
-    while i < k {
+    for i in 0..k {
         if tenth < bound {
             return i + 1;
         }
-        bound = bound * 10;
-        i += 1;
+        bound *= 10;
     }
     k
 }
@@ -63,11 +58,9 @@ pub fn put_magnitude(buf: &mut [u8], at: usize, m: u64, k: usize) -> usize
 {
     let end = at + digits_of(m, k);
     let mut left = m;
-    let mut p = end;
-    while at < p {
-        p -= 1;
-        put_byte(buf, p, (48 + left % 10) as u8);
-        left = left / 10;
+    for p in (at..end).rev() {
+        put_byte(buf, p, b'0' + (left % 10) as u8);
+        left /= 10;
     }
     end
 }
@@ -85,18 +78,15 @@ pub fn put_number(buf: &mut [u8], at: usize, v: i64, k: usize) -> usize
     put_magnitude(buf, at, m, k)
 }
 
-// The numbers from the second on, of at most k digits each, each after a comma.
+// Numbers of at most k digits each, each after a comma.
 fn put_more(buf: &mut [u8], at: usize, xs: &[i64], k: usize) -> usize
     requires { (k ≤ long_max) × (at + (k + 2) * length xs.now ≤ place_max) × Below k xs.now }
-    ensures { Wrote buf.old buf.new at result (show_more k 1 xs.now) }
+    ensures { Wrote buf.old buf.new at result (after_commas (map (show_signed k) xs.now)) }
 {
     let mut p = at;
-    let mut i = 1;
-    while i < xs.len() {
-        let v = xs[i];
+    for v in xs {
         p = put_byte(buf, p, b',');
-        p = put_number(buf, p, v, k);
-        i += 1;
+        p = put_number(buf, p, *v, k);
     }
     p
 }
@@ -106,12 +96,11 @@ pub fn put_list(buf: &mut [u8], at: usize, xs: &[i64], k: usize) -> usize
     requires { (k ≤ long_max) × (at + (k + 2) * (1 + length xs.now) ≤ place_max) × Below k xs.now }
     ensures { Wrote buf.old buf.new at result (show_all k xs.now) }
 {
-    if xs.len() == 0 {
+    let Some((first, others)) = xs.split_first() else {
         return at;
-    }
-    let v = xs[0];
-    let next = put_number(buf, at, v, k);
-    put_more(buf, next, xs, k)
+    };
+    let next = put_number(buf, at, *first, k);
+    put_more(buf, next, others, k)
 }
 
 // A line: a key, some bytes and LF.
@@ -164,19 +153,12 @@ pub fn put_row_line(
 }
 
 // A whole text over a lent buffer from its start on, or nothing where it has no room.
-pub fn put_whole(text: &[u8], out: &mut [u8]) -> Written
-    requires { length text.now ≤ place_max }
-    ensures { Leaves Ok tt text.now out.old out.new result }
+pub fn put_whole(text: &[u8], out: &mut [u8]) -> Checked<usize>
+    ensures { Leaves (Ok tt) text.now out.old out.new result }
 {
     if out.len() < text.len() {
-        return Written {
-            status: Status::Refused(Fault::ShortBuffer, 0),
-            len: 0,
-        };
+        return refused(Fault::ShortBuffer, 0);
     }
-    let len = put_bytes(out, 0, text);
-    Written {
-        status: Status::Done,
-        len,
-    }
+    out[..text.len()].copy_from_slice(text);
+    Ok(text.len())
 }

@@ -1,13 +1,10 @@
 use Prim.Native.Nat.{suc, ◌*◌, ◌^◌}
 use native.Mathlib.Omega.{arith}
-use native.Mathlib.Nat.{pow-zero, pow-suc}
+use native.Mathlib.Nat.{pow-suc}
 use native.Mathlib.Numerals.{add-one}
-use mathlib.Core.Path.{◌≡◌, sym}
+use mathlib.Core.Path.{◌≡◌}
 use Rattle.digits.proofs.Show.{show-short, show-over, show-under}
 use Rattle.writing.proofs.digits_of.Goals as goal
-
-pub loop-i-init : goal.loop-i-init
-loop-i-init c = record { power = sym (pow-zero 10); low = λ p. absurd (omega arith); room = omega arith }
 
 pub returns-then-tenth-bound : goal.returns-then-tenth-bound
 returns-then-tenth-bound c =

@@ -3,10 +3,10 @@ use native.Mathlib.Omega.{arith}
 use mathlib.Core.Path.{◌≡◌, refl, sym, ap, ◌∙◌}
 use mathlib.Core.List.{List, [], ◌∷◌, append_assoc, append-nil}
 use lib.ListN.{length, length-append}
-use lib.Seq.{sets, length-sets}
+use lib.Seq.{sets}
 use Rattle.digits.specs.Bytes.{digit0}
 use Rattle.digits.specs.Show.{show_magnitude}
-use Rattle.digits.proofs.Show.{show-none, show-short, show-full, show-last}
+use Rattle.digits.proofs.Show.{show-short, show-full, show-last}
 use Rattle.writing.proofs.Wrote.{sets-before}
 use Rattle.writing.proofs.put_magnitude.Invariants.{Inv}
 use Rattle.writing.proofs.put_magnitude.Goals as goal
@@ -56,18 +56,3 @@ pub loop-p-preserved : goal.loop-p-preserved
 loop-p-preserved c =
     let l = c.loop-p in
     turn l.invariant c.loop-p-test.true c.put_byte.ensures.text
-
-pub shape_of-buf : goal.shape_of-buf
-shape_of-buf c = let h = c.loop-p.invariant in rw h.stands (length-sets _ _ h.done)
-
-pub returns : goal.returns
-returns c =
-    let a = c.args in
-    let l = c.loop-p in
-    let p : l.p ≡ a.at = omega (arith, l.invariant.low, c.loop-p-test.false) in
-    let z : l.p - a.at ≡ 0 = omega arith in
-    let none = show-none (l.p - a.at) l.left z in
-    record {
-      next = omega (arith, c.digits_of.ensures);
-      text = l.invariant.stands ∙ rw (p, ← l.invariant.whole, none);
-    }

@@ -18,6 +18,3 @@ pub record Inv (old new text : List ℕ) (at end left p : ℕ) : Type 0 where
 
 abbrev pub invariant-loop-p : goal.invariant-loop-p
 invariant-loop-p l = Inv l.initial.buf l.buf (show_magnitude l.k l.m) l.at l.end l.left l.p
-
-abbrev pub decreases-loop-p : goal.decreases-loop-p
-decreases-loop-p l = l.p

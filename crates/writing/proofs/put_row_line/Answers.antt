@@ -3,17 +3,11 @@ use borrow.Author.Rules.{rules}
 use Prim.Native.Nat.{◌+◌, ◌≤◌}
 use native.Mathlib.Omega.{arith}
 use native.Mathlib.Nat.{mul-le-mul_left}
-use mathlib.Core.Path.{◌≡◌, sym}
+use mathlib.Core.Path.{◌≡◌}
 use lib.ListN.{length, take, length-take}
-use lib.Seq.{length-take-le}
 use Rattle.sizes.specs.Sizes.{n_max}
 use Rattle.writing.proofs.Lists.{taken-first}
 use Rattle.writing.proofs.put_row_line.Goals as goal
-
-pub slice_bounds-put_list_line-end : goal.slice_bounds-put_list_line-end
-slice_bounds-put_list_line-end c =
-    let long : length c.args.row ≡ n_max = search rules in
-    sym (length-take-le c.args.n c.args.row (omega (arith, c.requires.few)))
 
 pub put_list_line-requires : goal.put_list_line-requires
 put_list_line-requires c =
