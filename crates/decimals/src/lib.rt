@@ -20,15 +20,13 @@ fn put_decimals(buf: &mut [u8], at: usize, r: u64) -> usize
 {
     let mut p = at;
     let mut left = r;
-    let mut k = 0;
-    while k < DECIMALS {
+    for _k in 0..DECIMALS {
         if left == 0 {
             return p;
         }
         let tens = left * 10;
-        p = put_byte(buf, p, (48 + tens / UNIT) as u8);
+        p = put_byte(buf, p, b'0' + (tens / UNIT) as u8);
         left = tens % UNIT;
-        k += 1;
     }
     p
 }

@@ -4,7 +4,7 @@ use mathlib.Core.Path.{◌≡◌, refl, sym, ap, ◌∙◌}
 use mathlib.Core.List.{List, [], ◌∷◌, ◌++◌, append_assoc, append-nil}
 use Rattle.digits.specs.Bytes.{digit0}
 use Rattle.writing.specs.Wrote.{Wrote}
-use Rattle.writing.proofs.Wrote.{wrote-append, wrote_none, wrote-length}
+use Rattle.writing.proofs.Wrote.{wrote-append, wrote_none}
 use Rattle.decimals.specs.Units.{unit, decimals_max, decimals}
 use Rattle.decimals.proofs.Decimals.{none_left, no_more, one_more}
 use Rattle.decimals.proofs.put_decimals.Invariants.{Inv}
@@ -27,34 +27,18 @@ loop-k-init c = record {
   whole = refl;
 }
 
-pub shape_of-buf-then-left-eq0 : goal.shape_of-buf-then-left-eq0
-shape_of-buf-then-left-eq0 c = wrote-length c.loop-k.invariant.wrote
-
 pub returns-then-left-eq0 : goal.returns-then-left-eq0
 returns-then-left-eq0 c =
     let l = c.loop-k in
-    all-written (none_left (decimals_max - l.k) l.left c.if-left-eq0.true) l.invariant
-
-pub overflow_mul-tens : goal.overflow_mul-tens
-overflow_mul-tens c = omega (arith, c.loop-k.invariant.small)
-
-pub overflow_add-tens : goal.overflow_add-tens
-overflow_add-tens c = omega (arith, c.loop-k.invariant.small)
-
-pub overflow_cast-tens : goal.overflow_cast-tens
-overflow_cast-tens c = omega (arith, c.loop-k.invariant.small)
-
-pub put_byte-p-requires : goal.put_byte-p-requires
-put_byte-p-requires c =
-    omega (arith, c.loop-k.invariant.room, c.requires.0)
+    all-written (none_left (decimals_max - l._k) l.left c.if-left-eq0.true) l.invariant
 
 pub loop-k-preserved : goal.loop-k-preserved
 loop-k-preserved c =
     let l = c.loop-k in
     let test = c.loop-k-test.true in
     let byte = c.put_byte-p.ensures in
-    let next = one_more (decimals_max - l.k) l.left (omega arith) c.if-left-eq0.false in
-    let e : decimals_max - l.k - 1 ≡ decimals_max - (l.k + 1) = omega arith in
+    let next = one_more (decimals_max - l._k) l.left (omega arith) c.if-left-eq0.false in
+    let e : decimals_max - l._k - 1 ≡ decimals_max - (l._k + 1) = omega arith in
     let b : ℕ = digit0 + l.left * 10 / unit in
     record {
       few = omega arith;
@@ -67,11 +51,8 @@ loop-k-preserved c =
           ∙ l.invariant.whole;
     }
 
-pub shape_of-buf : goal.shape_of-buf
-shape_of-buf c = wrote-length c.loop-k.invariant.wrote
-
 pub returns : goal.returns
 returns c =
     let l = c.loop-k in
-    let z : decimals_max - l.k ≡ 0 = omega (arith, c.loop-k-test.false) in
-    all-written (no_more (decimals_max - l.k) l.left z) l.invariant
+    let z : decimals_max - l._k ≡ 0 = omega (arith, c.loop-k-test.false) in
+    all-written (no_more (decimals_max - l._k) l.left z) l.invariant

@@ -16,7 +16,4 @@ pub record Inv (old new : List ℕ) (at r p left k : ℕ) : Type 0 where
   pub whole : done ++ decimals (decimals_max - k) left ≡ decimals decimals_max r
 
 abbrev pub invariant-loop-k : goal.invariant-loop-k
-invariant-loop-k l = Inv l.initial.buf l.buf l.at l.r l.p l.left l.k
-
-abbrev pub decreases-loop-k : goal.decreases-loop-k
-decreases-loop-k l = decimals_max - l.k
+invariant-loop-k l = Inv l.initial.buf l.buf l.at l.r l.p l.left l._k

@@ -22,9 +22,6 @@ unfolding show_units
 non (pos n) t = refl
 non (negsuc n) t = absurd (true≢false t)
 
-pub abs-m-requires : goal.abs-m-requires
-abs-m-requires c = rw (to_z-of_z c.ranges.v) (omega (arith, c.requires.1))
-
 pub returns-then-v-lt0 : goal.returns-then-v-lt0
 returns-then-v-lt0 c =
     let e = to_z-of_z c.ranges.v in
