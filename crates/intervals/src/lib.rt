@@ -25,6 +25,9 @@ pub struct Interval {
     pub hi: i64,
 }
 
+// [0, 0]: an empty sum, and what stands past the live places.
+pub const ZERO: Interval = Interval { lo: 0, hi: 0 };
+
 // The shift rounds down, on negative numbers too.
 #[tactic(auto, using(crate::proofs::Division::shifts))]
 pub fn floor_div(x: i64) -> i64

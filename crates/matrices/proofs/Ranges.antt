@@ -1,17 +1,13 @@
 -- Every sum of products fits, and how large D, B and E can be.
-use mathlib.Core.Path.{◌≡◌, ap, ◌∙◌}
+use mathlib.Core.Path.{◌≡◌}
 use mathlib.Core.Bool.{Bool, true, false, cond}
 use Prim.Native.Nat.{ℕ, ◌+◌, ◌*◌, ◌^◌, ◌<◌, ◌≤◌, zero-le}
 use native.Mathlib.Omega.{arith}
 use native.Mathlib.Nat.{le_refl, le_trans, mul-le-mul_right, suc-mul}
 use lib.Dec.{eqb}
 use lib.IntN.{ℤ, pos}
-use lib.Signed.{mag}
-use mir.Syntax.{w64}
-use mir.Val.{to_z, of_z}
 use Rattle.sizes.specs.Sizes.{entry_max}
 use Rattle.integers.specs.Ranges.{Within}
-use Rattle.integers.proofs.Machine.{back, ok}
 use Rattle.intervals.specs.Interval.{mark, point_i, add_i, neg_i, wide_i}
 use Rattle.intervals.specs.Ranges.{FitsAdd, FitsNeg, FitsMul, InI}
 use Rattle.intervals.proofs.Ranges.{in-point, in-add, in-neg, in-wide, in-out, in_sum, up-within}
@@ -51,15 +47,6 @@ module _ {n : ℕ} {a b : ℕ → Interval} (h : DotIn n a b) where
 
   pub round-fits : {s : Interval} → s ≡ dot_i n a b → Within s.hi up_max
   round-fits e = rw e (up-within h.sum (in-dot n h.left h.right h.lefts h.rights))
-
--- a number that is read from an array, as a factor
-pub read_fits : {z : ℤ} {x : Interval}
-    → mag z < 2 ^ 63 → FitsMul (point_i z) x → FitsMul (point_i (to_z w64 (of_z w64 z))) x
-read_fits {z} g h = rw (back (ok z g)) h
-
-pub read_back : (z : ℤ) (x : Interval) {r : Interval}
-    → mag z < 2 ^ 63 → r ≡ wide_i (point_i (to_z w64 (of_z w64 z))) x → r ≡ wide_i (point_i z) x
-read_back z x g e = e ∙ ap (λ (z : ℤ). wide_i (point_i z) x) (back (ok z g))
 
 -- D
 module _ {n : ℕ} {C : ℕ → ℕ → ℤ} {F : ℕ → Interval} (h : DIn n C F) (i : ℕ) (l : i < n) where

@@ -1,6 +1,5 @@
 -- b_matrix: each turn makes one row of B, each turn within it one entry, each turn within that adds one exact product.
 use mathlib.Core.Path.{◌≡◌}
-use Prim.Native.Nat.{◌≤◌, ◌-◌}
 use lib.ListN.{replicate}
 use Rattle.sizes.specs.Sizes.{n_max}
 use Rattle.lists.specs.Loops.{tab}
@@ -11,21 +10,12 @@ use Rattle.matrices.proofs.b_matrix.Given as goal
 
 abbrev pub invariant-loop-k : goal.invariant-loop-k
 invariant-loop-k l =
-    (l.k ≤ l.n) × (l.sum ≡ dot_i l.k (λ m. point_i (entry_at l.c l.i m)) (λ m. cell_at l.s m l.j))
-
-abbrev pub decreases-loop-k : goal.decreases-loop-k
-decreases-loop-k l = l.n - l.k
+    l.sum ≡ dot_i l.k (λ m. point_i (entry_at l.c l.i m)) (λ m. cell_at l.s m l.j)
 
 abbrev pub invariant-loop-j : goal.invariant-loop-j
-invariant-loop-j l = (l.j ≤ l.n) × (l.line ≡ tab n_max l.j zero_i (b_of l.n (entry_at l.c) (cell_at l.s) l.i))
-
-abbrev pub decreases-loop-j : goal.decreases-loop-j
-decreases-loop-j l = l.n - l.j
+invariant-loop-j l = l.line ≡ tab n_max l.j zero_i (b_of l.n (entry_at l.c) (cell_at l.s) l.i)
 
 abbrev pub invariant-loop-i : goal.invariant-loop-i
 invariant-loop-i l =
-    (l.i ≤ l.n) × (l.b ≡ tab n_max l.i (replicate n_max zero_i)
-    (λ m. vector_of l.n (b_of l.n (entry_at l.c) (cell_at l.s) m)))
-
-abbrev pub decreases-loop-i : goal.decreases-loop-i
-decreases-loop-i l = l.n - l.i
+    l.b ≡ tab n_max l.i (replicate n_max zero_i)
+    (λ m. vector_of l.n (b_of l.n (entry_at l.c) (cell_at l.s) m))

@@ -1,6 +1,5 @@
 -- e_vector: each turn makes one entry of E, each turn within it adds one exact product.
 use mathlib.Core.Path.{◌≡◌}
-use Prim.Native.Nat.{◌≤◌, ◌-◌}
 use Rattle.sizes.specs.Sizes.{n_max}
 use Rattle.lists.specs.Loops.{tab}
 use Rattle.intervals.specs.Interval.{zero_i}
@@ -9,13 +8,7 @@ use Rattle.matrices.specs.Products.{dot_i, e_of}
 use Rattle.matrices.proofs.e_vector.Given as goal
 
 abbrev pub invariant-loop-k : goal.invariant-loop-k
-invariant-loop-k l = (l.k ≤ l.n) × (l.sum ≡ dot_i l.k (cell_at l.b l.i) (side_at l.z))
-
-abbrev pub decreases-loop-k : goal.decreases-loop-k
-decreases-loop-k l = l.n - l.k
+invariant-loop-k l = l.sum ≡ dot_i l.k (cell_at l.b l.i) (side_at l.z)
 
 abbrev pub invariant-loop-i : goal.invariant-loop-i
-invariant-loop-i l = (l.i ≤ l.n) × (l.e ≡ tab n_max l.i zero_i (e_of l.n (cell_at l.b) (side_at l.z)))
-
-abbrev pub decreases-loop-i : goal.decreases-loop-i
-decreases-loop-i l = l.n - l.i
+invariant-loop-i l = l.e ≡ tab n_max l.i zero_i (e_of l.n (cell_at l.b) (side_at l.z))
