@@ -7,22 +7,12 @@ ghost use Rattle.cells.specs.Cells.{number_at, number_bytes, cell, zeros};
 
 use writing::{put_byte, put_bytes};
 
-fn wide(b: u8) -> u64
-    ensures { (result ≡ b) × (result < 256) }
-{
-    b as u64
-}
-
 // The number in the four bytes from `at` on.
 pub fn number_at(bytes: &[u8], at: usize) -> u64
     requires { at + 4 ≤ length bytes.now }
     ensures { result ≡ number_at bytes.now at }
 {
-    let a = wide(bytes[at]);
-    let b = wide(bytes[at + 1]);
-    let c = wide(bytes[at + 2]);
-    let d = wide(bytes[at + 3]);
-    a + 256 * (b + 256 * (c + 256 * d))
+    u64::from(u32::from_le_bytes([bytes[at], bytes[at + 1], bytes[at + 2], bytes[at + 3]]))
 }
 
 // A number into four bytes.
@@ -30,13 +20,7 @@ pub fn put_number(bytes: &mut [u8], at: usize, v: u64) -> usize
     requires { at + 4 ≤ place_max }
     ensures { Wrote bytes.old bytes.new at result (number_bytes v) }
 {
-    let second = v / 256;
-    let third = second / 256;
-    let fourth = third / 256;
-    let a = put_byte(bytes, at, (v % 256) as u8);
-    let b = put_byte(bytes, a, (second % 256) as u8);
-    let c = put_byte(bytes, b, (third % 256) as u8);
-    put_byte(bytes, c, (fourth % 256) as u8)
+    put_bytes(bytes, at, &v.to_le_bytes()[..4])
 }
 
 // A text and its length.
