@@ -13,14 +13,14 @@ use Rattle.digits.proofs.Cases.{either, same_or}
 use Rattle.text.specs.Cut.{Cut, fresh, feeds}
 use Rattle.text.specs.Keys.{starts_with, body_of}
 use Rattle.text.specs.Lists.{places_max, no_numbers, put_number, add_read, add_field, last_field, read_list}
-use Rattle.text.specs.declared.Numbers.{Numbers}
+use Rattle.text.specs.Lists.{Numbers}
 use Rattle.text.proofs.Cuts.{closed, feed-sep, feed-held, feeds-none, feeds-cons}
 use Rattle.text.proofs.Lists.{take-zeros}
 use Rattle.reading.specs.Places.{part}
 use Rattle.reading.proofs.Ends.{line-end}
 use Rattle.scan.specs.Fields.{is_at, Stops, OnlyNumber}
-use Rattle.scan.specs.Lines.{line_of, ended_and, no_feed, numbers_at, list_at_of, places_of, Ready, no_list, ListFrom}
-use Rattle.scan.specs.declared.ListAt.{ListAt}
+use Rattle.scan.specs.Lines.{line_of, ended_and, no_feed, numbers_at, list_at_of, places_of, Ready, ListFrom}
+use Rattle.scan.specs.declared.At.{At}
 use Rattle.scan.proofs.Parts.{part_none}
 use Rattle.scan.proofs.Tests.{not-ended, is-ended}
 use Rattle.scan.proofs.Fields.{Steps, OnlyField, Onward, next_field, last-field, no_field, no-mark}
@@ -167,7 +167,7 @@ module _ {t : List ℕ} {from : ℕ} {old vals : List ℤ} {a count : ℕ} (inv 
         }
 
     pub ends : is_at t next line_feed ≡ true
-        → ListFrom [] t from (record { ok = true; count = count + 1; next = next + 1 }) old (set vals count v)
+        → ListFrom [] t from (Some (record { value = count + 1; next = next + 1 })) old (set vals count v)
     unfolding put_number list_at_of places_of
     ends z =
         let f = last-field numbers inv.on (number-field t a v next n) some z in
@@ -175,14 +175,14 @@ module _ {t : List ℕ} {from : ℕ} {old vals : List ℤ} {a count : ℕ} (inv 
         record {
           answer =
               rw y
-              (ap₂ (λ (c x : ℕ). record { ok = true; count = c; next = x })
+              (ap₂ (λ (c x : ℕ). Some (record { value = c; next = x }))
               (ap (λ (l : Numbers). l.count) f.2) (ap (λ (i : ℕ). i + 1) f.0));
           places = rw y (ap (λ (l : Numbers). l.vals) f.2);
         }
 
 -- the places are zero again, as many as they were
-pub no-list : {key t : List ℕ} {from : ℕ} {r : ListAt} {old : List ℤ} (now : List ℤ) {vals : List ℤ}
-    → ended_and t from (numbers_at key t from).ok ≡ false → r ≡ no_list
+pub no-list : {key t : List ℕ} {from : ℕ} {r : Option (At ℕ)} {old : List ℤ} (now : List ℤ) {vals : List ℤ}
+    → ended_and t from (numbers_at key t from).ok ≡ false → r ≡ None
     → length now ≡ length old → vals ≡ replicate (length now) (pos 0) → ListFrom key t from r old vals
 unfolding list_at_of places_of
 no-list now z p l q = record { answer = rw z p; places = rw (z, ← l) q }
@@ -199,7 +199,7 @@ module _ (t key : List ℕ) (from : ℕ) (h : from ≤ length t) where
       not-ended t from (numbers_at key t from).ok
       (λ x. ap (λ (l : List ℕ). (read_list l).ok) (no_body t key from h n) ∙ nothing)
 
-  pub keyed : no_feed key ≡ true → starts_with key (drop from t) ≡ true → (r : ListAt) (old vals : List ℤ)
+  pub keyed : no_feed key ≡ true → starts_with key (drop from t) ≡ true → (r : Option (At ℕ)) (old vals : List ℤ)
       → ListFrom [] t (from + length key) r old vals → ListFrom key t from r old vals
   unfolding body_of starts_with
   keyed a y r old vals l =

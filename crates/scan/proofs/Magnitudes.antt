@@ -15,9 +15,9 @@ use Rattle.digits.proofs.Cases.{either, same_or}
 use Rattle.reading.specs.Places.{part}
 use Rattle.scan.specs.Fields.{Stops, OnlyMagnitude}
 use Rattle.scan.proofs.Parts.{part_length, part_none, part-cons}
-use Rattle.std.specs.Prelude.{Some, None}
+use Rattle.std.specs.Prelude.{Option, Some, None}
 
-cond-bad : (t : Bool) → cond t None None ≡ None
+cond-bad : (t : Bool) → cond {A = Option ℕ} t None None ≡ None
 cond-bad true = refl
 cond-bad false = refl
 

@@ -148,6 +148,9 @@ module _ (s : List ℕ) (a : ℕ) where
   digits-inside h =
       sign-or (λ z. omega (arith, after-sign z, (at-yes s a minus_sign z).0)) (λ z. omega (arith, at_once z))
 
+  pub digits-after : a ≤ digits_at s a
+  digits-after = sign-or (λ z. omega (arith, after-sign z)) (λ z. omega (arith, at_once z))
+
   module _ (b m next : ℕ) (e : b ≡ digits_at s a) (d : OnlyMagnitude s b m next) where
     with-sign : is_at s a minus_sign ≡ true → OnlyMagnitude s (a + 1) m next
     with-sign z = rw (e ∙ after-sign z) at d

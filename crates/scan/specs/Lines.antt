@@ -1,15 +1,12 @@
 -- A whole line at its place: "Lines end in one LF, the last too".
--- Beside a line that is wrongly spelled every part of an answer is zero.
-use Rattle.std.specs.Prelude.{ℕ, ◌+◌, ◌≤◌, ◌≡◌, List, [], ◌∷◌, Bool, true, false, cond, length, take, replicate, eqb, ltb, ℤ, pos, Err, Some, None}
-use Rattle.std.specs.Prelude.{Option}
+use Rattle.std.specs.Prelude.{ℕ, ◌+◌, ◌≤◌, ◌≡◌, List, [], ◌∷◌, Bool, true, false, cond, length, take, replicate, eqb, ltb, ℤ, pos, Result, Ok, Err, Option, Some, None}
 use Rattle.digits.specs.Bytes.{line_feed}
 use Rattle.digits.specs.Number.{read_number}
 use Rattle.text.specs.Counts.{in_count}
 use Rattle.text.specs.Keys.{same_bytes, body_of}
 use Rattle.text.specs.Lists.{places_max, read_list}
-use Rattle.text.specs.declared.Numbers.{Numbers}
-use Rattle.scan.specs.declared.ListAt.{ListAt}
-use Rattle.scan.specs.declared.CountAt.{CountAt}
+use Rattle.text.specs.Lists.{Numbers}
+use Rattle.scan.specs.declared.At.{At}
 use Rattle.reading.specs.Places.{part, line_end}
 use Rattle.text.specs.declared.Uncounted.{Uncounted}
 
@@ -37,20 +34,18 @@ pub record Ready (vals : List ℤ) : Type 0 where
 abbrev pub numbers_at : List ℕ → List ℕ → ℕ → Numbers
 numbers_at key t a = read_list (body_of key (line_of t a))
 
-abbrev pub no_list : ListAt
-no_list = record { ok = false; count = 0; next = 0 }
+-- how many they are, and where the next line begins
+unfoldable pub list_at_of : Bool → Numbers → ℕ → Option (At ℕ)
+list_at_of true l e = Some (record { value = l.count; next = e + 1 })
+list_at_of false l e = None
 
-unfoldable pub list_at_of : Bool → Numbers → ℕ → ListAt
-list_at_of true l e = record { ok = true; count = l.count; next = e + 1 }
-list_at_of false l e = no_list
-
--- as many of the numbers as there are places
+-- as many of the numbers as there are places; beside a line that is wrongly spelled each is zero
 unfoldable pub places_of : Bool → Numbers → ℕ → List ℤ
 places_of true l k = take k l.vals
 places_of false l k = replicate k (pos 0)
 
 -- what is told of the line that begins at a, and what its places, `old`, then hold
-pub record ListFrom (key t : List ℕ) (a : ℕ) (r : ListAt) (old vals : List ℤ) : Type 0 where
+pub record ListFrom (key t : List ℕ) (a : ℕ) (r : Option (At ℕ)) (old vals : List ℤ) : Type 0 where
   pub answer : r ≡ list_at_of (ended_and t a (numbers_at key t a).ok) (numbers_at key t a) (line_end t a)
   pub places : vals ≡ places_of (ended_and t a (numbers_at key t a).ok) (numbers_at key t a) (length old)
 
@@ -60,15 +55,17 @@ pub record ListFrom (key t : List ℕ) (a : ℕ) (r : ListAt) (old vals : List �
 abbrev pub number_of : List ℕ → List ℕ → ℕ → Option ℤ
 number_of key t a = cond (ltb (line_end t a) (length t)) (read_number (body_of key (line_of t a))) None
 
-abbrev pub no_count : CountAt
-no_count = record { count = (Err Uncounted.Bad); next = 0 }
+-- a value, and the place after it
+abbrev pub with_next : {A E : Type 0} → Result A E → ℕ → Result (At A) E
+with_next (Ok x) e = Ok (record { value = x; next = e })
+with_next (Err u) e = Err u
 
-unfoldable pub counted_of : ℕ → Option ℤ → ℕ → CountAt
-counted_of most (Some v) e = record { count = in_count most v; next = e + 1 }
-counted_of most None e = no_count
+unfoldable pub counted_of : ℕ → Option ℤ → ℕ → Result (At ℕ) Uncounted
+counted_of most (Some v) e = with_next (in_count most v) (e + 1)
+counted_of most None e = Err Uncounted.Bad
 
 -- what is told of the line that begins at a
-abbrev pub CountFrom : ℕ → List ℕ → List ℕ → ℕ → CountAt → Type 0
+abbrev pub CountFrom : ℕ → List ℕ → List ℕ → ℕ → Result (At ℕ) Uncounted → Type 0
 CountFrom most key t a r = r ≡ counted_of most (number_of key t a) (line_end t a)
 
 -- ---- known bytes

@@ -1,57 +1,57 @@
--- `scan::lines::count_at` meets its contract.
+use Prim.Native.Nat.{ℕ, ◌+◌}
 use native.Mathlib.Omega.{arith}
-use mathlib.Core.Path.{sym, ◌∙◌}
+use mathlib.Core.Path.{◌≡◌, sym, ap, ◌∙◌}
 use mir.Syntax.{w64}
 use mir.Val.{SFits}
 use mir.Facts.{to_z-of_z}
+use borrow.Author.Rules.{rules}
+use Rattle.std.specs.Prelude.{Result, Err}
+use Rattle.text.specs.declared.Uncounted.{Uncounted}
+use Rattle.scan.specs.Lines.{with_next}
 use Rattle.scan.proofs.Keyed.{key-long}
 use Rattle.scan.proofs.Counting.{other_key, no-count, one-count}
-use borrow.Author.Rules.{rules}
 use Rattle.scan.proofs.lines.count_at.Goals as goal
 
 pub returns-then-not-key_at : goal.returns-then-not-key_at
-returns-then-not-key_at c =
-    let p = c.requires in
-    c.no_count.ensures
-    ∙ other_key _ _ _ p.0 _ (sym c.key_at.ensures ∙ c.if-not-key_at.true)
+returns-then-not-key_at c = other_key _ _ _ c.requires.0 _ (sym c.key_at.ensures ∙ c.if-not-key_at.true)
 
-pub number_at-r-requires : goal.number_at-r-requires
-number_at-r-requires c =
+pub number_at-requires : goal.number_at-requires
+number_at-requires c =
     let a = c.args in
-    key-long a.s.now a.key.now a.from c.requires.0
-    (sym c.key_at.ensures ∙ c.if-not-key_at.false)
+    key-long a.s.now a.key.now a.from c.requires.0 (sym c.key_at.ensures ∙ c.if-not-key_at.false)
 
-pub returns-then-next-a : goal.returns-then-next-a
-returns-then-next-a c =
+pub returns-in_default : goal.returns-in_default
+returns-in_default c =
     let a = c.args in
     let p = c.requires in
-    let y = sym c.key_at.ensures
-    ∙ c.if-not-key_at.false in
-    c.no_count-then-next-a.ensures
-    ∙ no-count a.s.now a.key.now _ p.0 _ p.1 y
-    c.number_at-r.ensures
-    (λ g. absurd (omega (arith, c.if-next-a.true)))
+    no-count a.s.now a.key.now _ p.0 _ p.1 (sym c.key_at.ensures ∙ c.if-not-key_at.false) c.in_default.ensures
+    (λ g. absurd (omega (arith, g)))
 
 pub returns-then-not-is_at : goal.returns-then-not-is_at
 returns-then-not-is_at c =
     let a = c.args in
     let p = c.requires in
-    let y = sym c.key_at.ensures
-    ∙ c.if-not-key_at.false in
-    c.no_count-then-not-is_at.ensures
-    ∙ no-count a.s.now a.key.now _ p.0 _ p.1 y
-    c.number_at-r.ensures
+    no-count a.s.now a.key.now _ p.0 _ p.1 (sym c.key_at.ensures ∙ c.if-not-key_at.false) c.in-Some.ensures.1
     (λ g. sym c.is_at.ensures ∙ c.if-not-is_at.true)
+
+pub returns-in_err-value : goal.returns-in_err-value
+returns-in_err-value c =
+    let a = c.args in
+    let p = c.requires in
+    let n = c.in-Some in
+    let fits : SFits w64 n.number.value = search rules in
+    let refused : c.from_residual.result ≡ Err c.in_err-value.field-0.0 = search rules in
+    refused
+    ∙ ap (λ (r : Result ℕ Uncounted). with_next r (n.number.next + 1)) (rw (to_z-of_z fits) at c.in_err-value.ensures)
+    ∙ one-count a.s.now a.key.now _ p.0 _ p.1 (sym c.key_at.ensures ∙ c.if-not-key_at.false) n.ensures.1
+    (λ z. omega (arith, n.ensures.0, z)) (sym c.is_at.ensures ∙ c.if-not-is_at.false)
 
 pub returns : goal.returns
 returns c =
     let a = c.args in
     let p = c.requires in
-    let n = c.number_at-r in
-    let y = sym c.key_at.ensures
-    ∙ c.if-not-key_at.false in
-    let fits : SFits w64 n.result.v = search rules in
-    rw (c.in_count.ensures, to_z-of_z fits)
-    (one-count a.s.now a.key.now _ p.0 _ p.1 y
-    n.ensures c.if-next-a.false
-    (sym c.is_at.ensures ∙ c.if-not-is_at.false))
+    let n = c.in-Some in
+    let fits : SFits w64 n.number.value = search rules in
+    ap (λ (r : Result ℕ Uncounted). with_next r (n.number.next + 1)) (rw (to_z-of_z fits) at c.in_ok-value.ensures)
+    ∙ one-count a.s.now a.key.now _ p.0 _ p.1 (sym c.key_at.ensures ∙ c.if-not-key_at.false) n.ensures.1
+    (λ z. omega (arith, n.ensures.0, z)) (sym c.is_at.ensures ∙ c.if-not-is_at.false)

@@ -4,8 +4,8 @@ use lib.ListN.{length}
 use Rattle.scan.proofs.Listing.{Inv}
 use Rattle.scan.proofs.lines.numbers_at.Given as goal
 
-abbrev pub invariant-loop-a : goal.invariant-loop-a
-invariant-loop-a l = Inv l.s l.from l.initial.vals l.vals l.a l.count
+abbrev pub invariant-loop-number : goal.invariant-loop-number
+invariant-loop-number l = Inv l.s l.from l.initial.vals l.vals l.a l.count
 
-abbrev pub decreases-loop-a : goal.decreases-loop-a
-decreases-loop-a l = length l.s - l.a
+abbrev pub decreases-loop-number : goal.decreases-loop-number
+decreases-loop-number l = length l.s - l.a
