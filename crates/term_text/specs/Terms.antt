@@ -1,7 +1,6 @@
 -- The terms of an `eq` line. Document 01: "A `poly` job has `eq` lines of terms `coefficient:exponents`, one digit for
 -- each unknown".
-use Rattle.std.specs.Prelude.{ℕ, ◌+◌, ◌-◌, List, Bool, true, false, cond, not, ◌&&◌, ◌||◌, length, take, drop, get_or, set, eqb, leb, pos, Some, None}
-use Rattle.std.specs.Prelude.{Option}
+use Rattle.std.specs.Prelude.{ℕ, ◌+◌, ◌-◌, List, Bool, true, false, cond, not, ◌&&◌, ◌||◌, length, take, drop, get_or, set, eqb, leb, ℤ, pos, Option, Some, None}
 use Rattle.sizes.specs.Sizes.{n_max, entry_max}
 use Rattle.lists.specs.Loops.{tab}
 use Rattle.jobs.specs.Zero.{zero_equation}
@@ -12,8 +11,8 @@ use Rattle.digits.specs.Number.{read_number}
 use Rattle.text.specs.Cut.{Cut, fresh, feeds}
 use Rattle.text.specs.Words.{eq_key}
 use Rattle.text.specs.Keys.{starts_with, body_of}
+use Rattle.jobs.specs.declared.Equation.{Equation}
 use Rattle.jobs.specs.declared.Term.{Term}
-use Rattle.term_text.specs.declared.Terms.{Terms}
 
 abbrev pub colon : ℕ
 colon = 58
@@ -27,6 +26,12 @@ unfoldable pub exponents : ℕ → List ℕ → List ℕ
 exponents n s = tab n_max n 0 (λ k. get_or s k 0 - digit0)
 
 -- ---- the terms read so far
+
+-- whether each is well spelled, whether a coefficient is beyond its size, how many there are, and the first of them
+pub record Terms : Type 0 where
+  pub ok : Bool
+  pub far : Bool
+  pub equation : Equation
 
 unfoldable pub no_terms : Terms
 no_terms = record { ok = true; far = false; equation = zero_equation }
