@@ -7,12 +7,11 @@ use mathlib.Core.List.{List, [], ◌∷◌}
 use mathlib.Core.Bool.{Bool, true, false, cond, false≢true}
 use lib.ListN.{length, get_or}
 use lib.Dec.{eqb, leb, lit<}
-use lib.IntN.{pos, neg_ℤ, ◌-ℤ◌, +ℤ_idl}
+use lib.IntN.{pos}
 use borrow.Author.Tests.{eqb-true, leb-true, le-ltb, lt-ltb}
 use mir.Syntax.{w64}
 use mir.Val.{SFits, to_z}
 use mir.Facts.{to_z_pos}
-use Rattle.integers.proofs.Ranges.{within-neg, fits}
 use Rattle.lists.proofs.All.{all-each}
 use Rattle.digits.specs.Bytes.{digit0, digit9}
 use Rattle.digits.specs.Digits.{is_digit, all_digits}
@@ -79,9 +78,3 @@ module _ {s : List ℕ} {m : ℕ} (l : Long s m) where
 
   pub long-up : to_z w64 m ≡ pos (value_from 0 s)
   long-up = to_z_pos w64 (omega arith) ∙ ap pos l.whole
-
-  pub minus_is : pos 0 -ℤ to_z w64 m ≡ neg_ℤ (pos (value_from 0 s))
-  minus_is = rw long-up (+ℤ_idl (neg_ℤ (pos (value_from 0 s))))
-
-  pub minus-fits : SFits w64 (neg_ℤ (pos (value_from 0 s)))
-  minus-fits = fits {B = 10 ^ long_max} (within-neg {a = pos (value_from 0 s)} (record { abs = omega arith })) tt

@@ -3,7 +3,6 @@ use Rattle.std.specs.Prelude.{ℕ, ◌+◌, ◌-◌, ◌*◌, min, List, [], ◌
 use Rattle.std.specs.Prelude.{Option}
 use Rattle.digits.specs.Bytes.{digit0}
 use Rattle.digits.specs.Digits.{all_digits}
-use Rattle.arguments.specs.declared.counts.Counted.{Counted}
 
 -- the greatest u64
 abbrev pub count_max : ℕ

@@ -1,7 +1,6 @@
 -- The pieces of a request's line: words between spaces, fields between commas.
-use Rattle.std.specs.Prelude.{ℕ, ◌+◌, ◌≤◌, ◌≡◌, List, length, take, drop}
+use Rattle.std.specs.Prelude.{ℕ, ◌+◌, ◌≡◌, List, take, drop}
 use Rattle.text.specs.Cut.{place_of}
-use Rattle.arguments.specs.declared.words.Word.{Word}
 
 abbrev pub space : ℕ
 space = 32
@@ -14,9 +13,7 @@ before sep s = take (place_of sep s) s
 unfoldable pub behind : ℕ → List ℕ → List ℕ
 behind sep s = drop (place_of sep s + 1) s
 
--- the first word ends at `end`, and what stands behind its space begins at `next`
-pub record FirstWord (r : Word) (s : List ℕ) : Type 0 where
-  pub first : take r.end s ≡ before space s
-  pub rest : drop r.next s ≡ behind space s
-  pub ends : r.end ≤ length s
-  pub begins : r.next ≤ length s
+-- the first word of s is `word`, and `tail` stands behind its space
+pub record FirstWord (word tail s : List ℕ) : Type 0 where
+  pub first : word ≡ before space s
+  pub rest : tail ≡ behind space s

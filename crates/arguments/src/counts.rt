@@ -4,57 +4,33 @@ ghost use Rattle.arguments.specs.Counts.{capped, value_from, is_spelled, count_b
 
 use digits::{all_digits, digit};
 
-// A count, or none.
-#[derive(Clone, Copy)]
-pub enum Counted {
-    Is(u64),
-    Bad,
-}
-
 // One digit more, as far as a u64 holds it.
 fn longer(v: u64, digit: u8) -> u64
     ensures { result ≡ capped (v * 10 + digit) }
 {
-    if v > u64::MAX / 10 {
-        return u64::MAX;
-    }
-    let tens = v * 10;
-    let ones = digit as u64;
-    if tens > u64::MAX - ones {
-        return u64::MAX;
-    }
-    tens + ones
+    v.saturating_mul(10).saturating_add(u64::from(digit))
 }
 
 pub fn value_of(s: &[u8]) -> u64
     ensures { result ≡ capped (value_from 0 s.now) }
 {
-    let mut v: u64 = 0;
-    let mut i = 0;
-    while i < s.len() {
-        v = longer(v, digit(s[i]));
-        i += 1;
-    }
-    v
+    s.iter().fold(0, |v, b| longer(v, digit(*b)))
 }
 
+#[tactic(auto, unfolding(crate::specs::Counts::is_spelled))]
 pub fn spelled(s: &[u8]) -> bool
     ensures { result ≡ is_spelled s.now }
 {
-    if s.len() == 0 {
-        return false;
+    match s {
+        [] => false,
+        [b'0', rest @ ..] => rest.is_empty(),
+        _ => all_digits(s),
     }
-    if s[0] == b'0' {
-        return s.len() == 1;
-    }
-    all_digits(s)
 }
 
-pub fn count_of(s: &[u8]) -> Counted
+#[tactic(auto, unfolding(crate::specs::Counts::count_by))]
+pub fn count_of(s: &[u8]) -> Option<u64>
     ensures { result ≡ count_by s.now }
 {
-    if spelled(s) {
-        return Counted::Is(value_of(s));
-    }
-    Counted::Bad
+    if spelled(s) { Some(value_of(s)) } else { None }
 }

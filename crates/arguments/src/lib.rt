@@ -9,9 +9,9 @@ pub mod longs;
 pub mod visits;
 pub mod words;
 
-pub use boxes::{Boxed, Told, box_of, told_of};
-pub use counts::{Counted, count_of};
+pub use boxes::{Told, box_of, told_of};
+pub use counts::count_of;
 pub use depths::{Deep, deep_of};
 pub use lengths::are_lengths;
-pub use longs::{Places, list_of, long_number};
+pub use longs::{list_of, long_number};
 pub use visits::{Shown, read_of, shown_of};

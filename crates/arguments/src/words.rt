@@ -3,19 +3,14 @@ ghost use Rattle.arguments.specs.Words.{FirstWord};
 
 use text::piece_end;
 
-// Where it ends, and where what stands behind its space begins.
-#[derive(Clone, Copy)]
-pub struct Word {
-    pub end: usize,
-    pub next: usize,
-}
-
-pub fn first_word(s: &[u8]) -> Word
-    ensures { FirstWord result s.now }
+// It, and what stands behind its space.
+#[tactic(auto, unfolding(crate::specs::Words::before, crate::specs::Words::behind))]
+pub fn first_word(s: &[u8]) -> (&[u8], &[u8])
+    ensures { FirstWord result.0.now result.1.now s.now }
 {
     let end = piece_end(s, 0, b' ');
     if end < s.len() {
-        return Word { end, next: end + 1 };
+        return (&s[..end], &s[end + 1..]);
     }
-    Word { end, next: end }
+    (s, &[])
 }

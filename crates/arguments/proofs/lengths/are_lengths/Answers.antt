@@ -1,23 +1,21 @@
-use native.Mathlib.Omega.{arith}
-use mathlib.Core.Path.{refl}
+-- `arguments::lengths::are_lengths` meets its contract.
+use borrow.Author.Rules.{rules}
+use borrow.Author.Tests.{tests}
+use mathlib.Core.Path.{◌∙◌}
+use lib.Dec.{eqb}
+use Rattle.std.proofs.lemmas.Iterator.Search.{all_from_yields_List}
+use Rattle.std.proofs.lemmas.Iterator.Splits.{YieldsList-from_slice_split}
 use Rattle.digits.specs.Bytes.{comma}
-use Rattle.text.proofs.Cuts.{left-next}
-use Rattle.arguments.specs.Lengths.{and_spelled, are_lengths}
+use Rattle.arguments.specs.Counts.{is_spelled}
+use Rattle.arguments.proofs.Splits.{lengths-split}
 use Rattle.arguments.proofs.lengths.are_lengths.Goals as goal
 
-pub loop-from-init : goal.loop-from-init
-unfolding are_lengths
-loop-from-init c = record { more = λ h. refl; none = λ h. absurd (omega arith) }
-
-pub loop-from-preserved : goal.loop-from-preserved
-loop-from-preserved c =
-    rw (c.and_also-good.ensures, c.spelled.ensures)
-    (left-next and_spelled comma _ _ _ _ _ c.loop-from-test.true c.piece_end-end.ensures
-    c.loop-from.invariant)
-
-pub loop-from-smaller : goal.loop-from-smaller
-loop-from-smaller c =
-    omega (arith, c.loop-from-test.true, c.piece_end-end.ensures.after)
-
 pub returns : goal.returns
-returns c = c.loop-from.invariant.none c.loop-from-test.false
+returns c =
+    let s = c.args.s.now in
+    let split = c.split.ensures in
+    all_from_yields_List is_spelled _ _ c.all.result c.all.ensures.ran
+    (YieldsList-from_slice_split _ (λ b. eqb b comma) s split.rest split.done split.closure
+    (λ x b q k. search (rules, tests)))
+    (λ x b q k. search (rules, tests))
+    ∙ lengths-split s

@@ -1,39 +1,28 @@
 -- `arguments::longs::minus` meets its contract.
-use borrow.Author.Tests.{eq-eqb, ne_eqb}
-use mathlib.Core.Path.{sym, ap, ◌∙◌}
+use Rattle.std.proofs.Common.{◌≡◌, sym, ap, ◌∙◌, rules, arith, Some, pos, neg_ℤ, ◌-ℤ◌, to_z, of_z, w64, FitsSigned}
+use Rattle.std.proofs.lemmas.Int.{ints}
 use mir.Facts.{to_z-of_z}
-use Rattle.digits.specs.Number.{with_minus}
-use Rattle.arguments.specs.Longs.{long_magnitude}
-use Rattle.arguments.proofs.Values.{long-held, long-fits, minus_is, minus-fits}
+use Rattle.arguments.proofs.Signs.{minus-none, minus-zero, minus-some, not-below}
 use Rattle.arguments.proofs.longs.minus.Goals as goal
-use Rattle.std.specs.Prelude.{Some}
 
-pub returns-then-not-is_long : goal.returns-then-not-is_long
-unfolding with_minus long_magnitude
-returns-then-not-is_long c = rw (sym c.is_long.ensures ∙ c.if-not-is_long.true)
-
-pub returns-then-m-eq0 : goal.returns-then-m-eq0
-unfolding with_minus long_magnitude
-returns-then-m-eq0 c =
-    let long = sym c.is_long.ensures ∙ c.if-not-is_long.false in
-    let held = long-held long c.value_of-m.ensures in
-    rw (long, eq-eqb _ _ (sym held.whole ∙ c.if-m-eq0.true))
-
-pub overflow_cast-result : goal.overflow_cast-result
-overflow_cast-result c =
-    let long = sym c.is_long.ensures ∙ c.if-not-is_long.false in
-    long-fits (long-held long c.value_of-m.ensures)
+pub returns-in_err-m : goal.returns-in_err-m
+returns-in_err-m c = c.from_residual.ensures ∙ minus-none _ c.in_err-m.ensures
 
 pub overflow_sub-result : goal.overflow_sub-result
 overflow_sub-result c =
-    let long = sym c.is_long.ensures ∙ c.if-not-is_long.false in
-    let held = long-held long c.value_of-m.ensures in
-    rw (minus_is held) (minus-fits held)
+    let (k, e) = not-below _ _ c.in_ok-m.ensures in
+    omega (arith, ints, e)
+
+pub returns-then-m-eq0 : goal.returns-then-m-eq0
+returns-then-m-eq0 c =
+    let v = c.in_ok-m.m in
+    let fits : FitsSigned w64 v = search rules in
+    let zero : v ≡ pos 0 = sym (to_z-of_z fits) ∙ ap (to_z w64) c.if-m-eq0.true in
+    minus-zero _ (ap Some (sym zero) ∙ c.in_ok-m.ensures)
 
 pub returns : goal.returns
-unfolding with_minus long_magnitude
 returns c =
-    let long = sym c.is_long.ensures ∙ c.if-not-is_long.false in
-    let held = long-held long c.value_of-m.ensures in
-    rw (long, ne_eqb _ _ (λ z. c.if-m-eq0.false (held.whole ∙ z)))
-    (ap Some (rw (minus_is held) (to_z-of_z (minus-fits held))))
+    let v = c.in_ok-m.m in
+    let (k, e) = not-below _ v c.in_ok-m.ensures in
+    let same : Some (to_z w64 (of_z w64 (pos 0 -ℤ to_z w64 (of_z w64 v)))) ≡ Some (neg_ℤ v) = grind (arith, ints, e) in
+    same ∙ minus-some _ v (λ z. c.if-m-eq0.false (ap (of_z w64) z)) c.in_ok-m.ensures

@@ -1,28 +1,32 @@
 -- `arguments::words::first_word` meets its contract.
-use Prim.Native.Nat.{ℕ, ◌+◌, ◌≤◌}
-use native.Mathlib.Omega.{arith}
-use mathlib.Core.Path.{sym, ◌∙◌}
-use lib.ListN.{drop_of_length-le}
+use Rattle.std.proofs.Common.{◌≡◌, ℕ, ◌+◌, ◌≤◌, List, [], arith, length, take, drop, sym, ◌∙◌, drop_of_length-le}
+use Rattle.std.proofs.lemmas.List.{take_all, take_rest}
+use Rattle.text.specs.Cut.{PieceEnd}
 use Rattle.text.proofs.Ends.{end_is}
-use Rattle.arguments.specs.Words.{before, behind}
+use Rattle.arguments.specs.Words.{space, before, behind}
 use Rattle.arguments.proofs.words.first_word.Goals as goal
 
-past : {n e : ℕ} → n ≤ e → n ≤ e + 1
-past h = omega arith
+module _ {s : List ℕ} {e : ℕ} (p : PieceEnd s space 0 e) where
+  word : take e s ≡ before space s
+  unfolding before
+  word = rw (end_is p)
+
+  tail : drop (e + 1) s ≡ behind space s
+  unfolding behind
+  tail = rw (end_is p)
+
+  all-word : length s ≤ e → s ≡ before space s
+  all-word h = sym (take_all e s h) ∙ word
+
+  no-tail : length s ≤ e → [] ≡ behind space s
+  no-tail h = let past : length s ≤ e + 1 = omega arith in sym (drop_of_length-le s past) ∙ tail
 
 pub returns-then-end-s : goal.returns-then-end-s
-unfolding before behind
 returns-then-end-s c =
     let end = c.piece_end-end.ensures in
-    record { first = rw (end_is end); rest = rw (end_is end); ends = end.inside; begins = omega arith }
+    record { first = word end; rest = take_rest c.args.s.now (c.piece_end-end.result + 1) ∙ tail end }
 
 pub returns : goal.returns
-unfolding before behind
 returns c =
     let end = c.piece_end-end.ensures in
-    record {
-      first = rw (end_is end);
-      rest = drop_of_length-le _ c.if-end-s.false ∙ sym (rw (end_is end) (drop_of_length-le _ (past c.if-end-s.false)));
-      ends = end.inside;
-      begins = end.inside;
-    }
+    record { first = all-word end c.if-end-s.false; rest = no-tail end c.if-end-s.false }
