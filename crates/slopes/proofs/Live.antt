@@ -4,15 +4,15 @@ use mathlib.Core.Bool.{Bool, true, false, cond}
 use mathlib.Core.List.{List}
 use mathlib.Core.Logic.{◌⊎◌, inl, inr, ⊎_elim}
 use Prim.Native.Nat.{ℕ, zero, suc, ◌+◌, ◌<◌, ◌≤◌}
-use native.Mathlib.Nat.{not-suc-le-zero, le_of_suc-le-suc, eq-or-lt_of_le}
+use native.Mathlib.Nat.{not-suc-le-zero, le_of_suc-le-suc, le_antisymm, eq-or-lt_of_le}
 use native.Mathlib.Numerals.{add-one}
 use native.Mathlib.Omega.{arith}
 use lib.Dec.{ltb}
 use lib.IntN.{ℤ}
-use lib.ListN.{length, get_or, set, length-set}
+use lib.ListN.{length, get_or, take, set}
 use lib.Seq.{get_or-set_same, get_or-set_other}
 use borrow.Author.Tests.{lt-ltb, le-ltb, ltb-true}
-use Rattle.sizes.specs.Sizes.{n_max}
+use Rattle.std.proofs.lemmas.List.{length-take-le, get_or-take}
 use Rattle.intervals.specs.Interval.{point_i}
 use Rattle.intervals.specs.declared.Interval.{Interval}
 use Rattle.jobs.specs.declared.Equation.{Equation}
@@ -40,7 +40,6 @@ begins at (suc w) = get_or at w 0 + 1
 
 -- the first `count` places are those below n where an unknown stands, in rising order
 pub record LiveIn (n : ℕ) (e : ℕ → ℕ) (at : List ℕ) (count : ℕ) : Type 0 where
-  pub long : length at ≡ n_max
   pub few : count ≤ n
   pub inside : (w : ℕ) → w < count → get_or at w 0 < n
   pub stands : (w : ℕ) → w < count → e (get_or at w 0) ≡ 0 → ⊥
@@ -55,9 +54,8 @@ stop-inside {n} {e} {at} {count} live w = go (ltb w count) refl
     go true p = omega (arith, live.inside w (ltb-true w count p))
     go false p = omega arith
 
-pub live-start : (e : ℕ → ℕ) (at : List ℕ) → length at ≡ n_max → LiveIn 0 e at 0
-live-start e at long = record {
-  long = long;
+pub live-start : (e : ℕ → ℕ) (at : List ℕ) → LiveIn 0 e at 0
+live-start e at = record {
   few = omega arith;
   inside = λ w l. absurd (not-suc-le-zero l);
   stands = λ w l. absurd (not-suc-le-zero l);
@@ -73,7 +71,6 @@ module _ (k : ℕ) (e : ℕ → ℕ) (at : List ℕ) (count : ℕ) (live : LiveI
   -- nothing stands at k
   pub live-skip : e k ≡ 0 → LiveIn (k + 1) e at count
   live-skip z = record {
-    long = live.long;
     few = omega (arith, live.few);
     inside = λ w l. omega (arith, live.inside w l);
     stands = live.stands;
@@ -103,9 +100,8 @@ module _ (k : ℕ) (e : ℕ → ℕ) (at : List ℕ) (count : ℕ) (live : LiveI
           (eq-or-lt_of_le h)
 
   -- an unknown stands at k
-  pub live-add : (e k ≡ 0 → ⊥) → k < n_max → LiveIn (k + 1) e (set at count k) (count + 1)
-  live-add some few = record {
-    long = length-set at count k ∙ live.long;
+  pub live-add : (e k ≡ 0 → ⊥) → count < length at → LiveIn (k + 1) e (set at count k) (count + 1)
+  live-add some room = record {
     few = omega (arith, live.few);
     inside = λ w l. by w (omega (arith, l)) (λ q p. omega (arith, p)) (λ m p. omega (arith, p, live.inside w m));
     stands = λ w l z. by w (omega (arith, l)) (λ q p. some (rw p at z)) (λ m p. live.stands w m (rw p at z));
@@ -121,7 +117,7 @@ module _ (k : ℕ) (e : ℕ → ℕ) (at : List ℕ) (count : ℕ) (live : LiveI
           ⊎_elim (λ q. inl q) (λ l. inr (le_of_suc-le-suc l)) (eq-or-lt_of_le {n = w} {m = suc count} (omega arith))
 
       here : get_or put count 0 ≡ k
-      here = get_or-set_same at count k 0 (omega (arith, live.few, live.long))
+      here = get_or-set_same at count k 0 room
 
       other : (w : ℕ) → w < count → get_or put w 0 ≡ get_or at w 0
       other w l = get_or-set_other at count w k 0 (λ q. omega arith)
@@ -164,6 +160,34 @@ module _ (k : ℕ) (e : ℕ → ℕ) (at : List ℕ) (count : ℕ) (live : LiveI
           (λ q. absurd (omega (arith, b, l, last_begins w q, last-stop w q)))
           (λ m. live.none w m i (rw (same-begins w m) at b) (rw (same_stop w m) at l))
           (upto w h)
+
+-- the places of all unknowns of a term, as a list of their own
+pub live-taken : {n k count : ℕ} {e : ℕ → ℕ} {at : List ℕ} → k ≤ n → n ≤ k → count ≤ length at → LiveIn k e at count
+    → LiveIn n e (take count at) (length (take count at))
+live-taken {n} {k} {count} {e} {at} h g room live = rw (le_antisymm g h, long) (record {
+  few = live.few;
+  inside = λ w l. rw (read w l) (live.inside w l);
+  stands = λ w l z. live.stands w l (rw (read w l) at z);
+  rising = λ w l. rw (same_begins w l, same_stop w l) (live.rising w l);
+  none = λ w l i b m. live.none w l i (rw (same_begins w l) at b) (rw (same_stop w l) at m);
+})
+  where
+    long : length (take count at) ≡ count
+    long = length-take-le count at room
+
+    read : (w : ℕ) → w < count → get_or (take count at) w 0 ≡ get_or at w 0
+    read w l = get_or-take count at w 0 l
+
+    same_begins : (w : ℕ) → w ≤ count → begins (take count at) w ≡ begins at w
+    same_begins zero l = refl
+    same_begins (suc w) l = ap (λ (i : ℕ). i + 1) (read w l)
+
+    same_stop : (w : ℕ) → w ≤ count → stop k (take count at) count w ≡ stop k at count w
+    same_stop w l =
+        ⊎_elim
+        (λ q. stop-end k (take count at) count w (omega (arith, q)) ∙ sym (stop-end k at count w (omega (arith, q))))
+        (λ m. stop-live k (take count at) count w m ∙ read w m ∙ sym (stop-live k at count w m))
+        (eq-or-lt_of_le l)
 
 -- ---- a term over the places where an unknown stands
 

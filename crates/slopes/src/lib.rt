@@ -7,11 +7,12 @@ ghost use Rattle.intervals.specs.Places.{side_at};
 ghost use Rattle.slopes.specs.Terms.{factor_i, equation_over, lowered, slope_row};
 ghost use Rattle.slopes.specs.Ranges.{FactorIn, BoxIn, EquationIn};
 
-use intervals::Interval;
+use intervals::{Interval, ZERO};
 use jobs::{Equation, Term};
 use sizes::N;
 
 // a multiplied by the power e of x; without x there is no product.
+#[tactic(auto, unfolding(crate::specs::Terms::factor_i))]
 pub fn factor(a: Interval, x: Interval, e: u8) -> Interval
     requires { FactorIn e a x }
     ensures { result ≡ factor_i e a x }
@@ -26,13 +27,11 @@ pub fn factor(a: Interval, x: Interval, e: u8) -> Interval
 pub fn start(t: Term) -> Interval
     ensures { result ≡ point_i t.coef }
 {
-    Interval {
-        lo: t.coef,
-        hi: t.coef,
-    }
+    intervals::point(t.coef)
 }
 
 // The exponent d of unknown k, where that of unknown j is lowered by one.
+#[tactic(auto, unfolding(crate::specs::Terms::lowered))]
 pub fn less(d: u8, k: usize, j: usize) -> u8
     requires { k ≡ j → 0 < d }
     ensures { result ≡ lowered j (λ _. d) k }
@@ -50,18 +49,17 @@ pub struct Over {
 // Each term is visited once. Few of the unknowns stand in a term: the first `some` of `live` are their places, so that
 // no slope looks at the others again.
 pub fn equation_over(q: Equation, m: [Interval; N], x: [Interval; N], n: usize) -> Over
-    requires box_in { BoxIn n (side_at m) }
-    requires box_in_2 { BoxIn n (side_at x) }
-    requires equation_in { EquationIn n q }
+    requires m_in { BoxIn n (side_at m) }
+    requires x_in { BoxIn n (side_at x) }
+    requires q_in { EquationIn n q }
     ensures { (result.value ≡ equation_over n q (side_at m)) × (result.slopes ≡ slope_row n q (side_at x)) }
 {
-    let mut v = Interval { lo: 0, hi: 0 };
-    let mut s = [Interval { lo: 0, hi: 0 }; N];
-    let count = q.count;
-    for i in 0..count {
+    let mut value = ZERO;
+    let mut slopes = [ZERO; N];
+    for i in 0..q.count {
         let t = q.terms[i];
         let mut b = start(t);
-        let mut live = [0usize; N];
+        let mut live = [0; N];
         let mut some = 0;
         for k in 0..n {
             let e = t.exps[k];
@@ -71,21 +69,15 @@ pub fn equation_over(q: Equation, m: [Interval; N], x: [Interval; N], n: usize) 
                 some += 1;
             }
         }
-        v = intervals::add(v, b);
-        for u in 0..some {
-            let j = live[u];
+        value = intervals::add(value, b);
+        let places = &live[..some];
+        for &j in places {
             let mut a = start(t);
-            for w in 0..some {
-                let k = live[w];
-                let d = t.exps[k];
-                a = factor(a, x[k], less(d, k, j));
+            for &k in places {
+                a = factor(a, x[k], less(t.exps[k], k, j));
             }
-            let e = t.exps[j];
-            s[j] = intervals::add(s[j], intervals::scaled(e, a));
+            slopes[j] = intervals::add(slopes[j], intervals::scaled(t.exps[j], a));
         }
     }
-    Over {
-        value: v,
-        slopes: s,
-    }
+    Over { value, slopes }
 }

@@ -3,7 +3,9 @@
 -- within that, the lowered term up to place w of them.
 use mathlib.Core.Path.{◌≡◌}
 use mathlib.Core.List.{List}
-use Prim.Native.Nat.{ℕ, ◌≤◌, ◌-◌}
+use Prim.Native.Nat.{ℕ}
+use lib.ListN.{length}
+use Rattle.sizes.specs.Sizes.{n_max}
 use Rattle.intervals.specs.declared.Interval.{Interval}
 use Rattle.intervals.specs.Interval.{sum_i}
 use Rattle.intervals.specs.Places.{side_at}
@@ -18,32 +20,25 @@ abbrev pub parts : ℕ → Equation → List Interval → ℕ → ℕ → Interv
 parts n q x k t = term_slope n (coef_of q t) (exps_of q t) k (side_at x)
 
 abbrev pub invariant-loop-k : goal.invariant-loop-k
-invariant-loop-k l =
-    (l.k ≤ l.n) × ((l.b ≡ term_over l.k (coef_of l.q l.i) (exps_of l.q l.i) (side_at l.m))
-    × LiveIn l.k (exps_of l.q l.i) l.live l.some)
+invariant-loop-k l = record {
+  term : l.b ≡ term_over l.k (coef_of l.q l.i) (exps_of l.q l.i) (side_at l.m);
+  long : length l.live ≡ n_max;
+  found : LiveIn l.k (exps_of l.q l.i) l.live l.some;
+}
 
-abbrev pub decreases-loop-k : goal.decreases-loop-k
-decreases-loop-k l = l.n - l.k
+abbrev pub invariant-loop-k-2 : goal.invariant-loop-k-2
+invariant-loop-k-2 l =
+    l.a ≡ term_over (stop l.n l.places (length l.places) l.k-index) (coef_of l.q l.i) (lowered l.j (exps_of l.q l.i))
+    (side_at l.x)
 
-abbrev pub invariant-loop-w : goal.invariant-loop-w
-invariant-loop-w l =
-    (l.w ≤ l.some) × (l.a ≡ term_over (stop l.n l.live l.some l.w) (coef_of l.q l.i) (lowered l.j (exps_of l.q l.i))
-    (side_at l.x))
-
-abbrev pub decreases-loop-w : goal.decreases-loop-w
-decreases-loop-w l = l.some - l.w
-
-abbrev pub invariant-loop-u : goal.invariant-loop-u
-invariant-loop-u l = (l.u ≤ l.some) × (l.s ≡ partly l.n (parts l.n l.q l.x) l.i (stop l.n l.live l.some l.u))
-
-abbrev pub decreases-loop-u : goal.decreases-loop-u
-decreases-loop-u l = l.some - l.u
+abbrev pub invariant-loop-j : goal.invariant-loop-j
+invariant-loop-j l = record {
+  found : LiveIn l.n (exps_of l.q l.i) l.places (length l.places);
+  slopes : l.slopes ≡ partly l.n (parts l.n l.q l.x) l.i (stop l.n l.places (length l.places) l.j-index);
+}
 
 abbrev pub invariant-loop-i : goal.invariant-loop-i
-invariant-loop-i l =
-    (l.i ≤ l.count)
-    × ((l.v ≡ sum_i l.i (λ t. term_over l.n (coef_of l.q t) (exps_of l.q t) (side_at l.m)))
-    × (l.s ≡ totals l.n (parts l.n l.q l.x) l.i))
-
-abbrev pub decreases-loop-i : goal.decreases-loop-i
-decreases-loop-i l = l.count - l.i
+invariant-loop-i l = record {
+  value : l.value ≡ sum_i l.i (λ t. term_over l.n (coef_of l.q t) (exps_of l.q t) (side_at l.m));
+  slopes : l.slopes ≡ totals l.n (parts l.n l.q l.x) l.i;
+}
