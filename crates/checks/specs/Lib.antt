@@ -1,3 +1,4 @@
 pub mod Checks
 pub mod Accepted
 pub mod CheckResult
+pub mod Answered

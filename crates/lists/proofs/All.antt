@@ -1,11 +1,14 @@
 -- The laws of a question asked of every place below n.
 use mathlib.Core.Path.{◌≡◌, refl, ap, ap₂, sym, ◌∙◌}
-use mathlib.Core.Bool.{Bool, true, false}
+use mathlib.Core.Bool.{Bool, true, false, ◌&&◌}
+use Rattle.std.proofs.Common.{List, length, take, get_or}
 use mathlib.Core.Logic.{⊎_elim}
 use Prim.Native.Nat.{ℕ, zero, suc, ◌+◌, ◌<◌, ◌≤◌}
 use native.Mathlib.Nat.{not-suc-le-zero, le_of_suc-le-suc, le_antisymm, eq-or-lt_of_le}
 use native.Mathlib.Omega.{arith}
 use native.Mathlib.Numerals.{add-one}
+use Rattle.std.specs.List.{list_all}
+use Rattle.std.proofs.lemmas.List.Folds.{list_all_more}
 use Rattle.lists.specs.Loops.{both, all_b}
 
 both-no : (a b : Bool) → b ≡ false → both a b ≡ false
@@ -57,3 +60,18 @@ pub all-cong : (n : ℕ) (p q : ℕ → Bool) → ((i : ℕ) → i < n → p i �
 unfolding all_b
 all-cong zero p q h = refl
 all-cong (suc n) p q h = ap₂ both (all-cong n p q (λ i l. h i (omega arith))) (h n (omega arith))
+
+pub both-and : (a b : Bool) → (a && b) ≡ both a b
+both-and true b = refl
+both-and false b = refl
+
+-- the same question of the elements of a list
+pub all-list : {X : Type 0} (q : X → Bool) (d : X) (xs : List X) (n : ℕ) → n ≤ length xs
+    → list_all q (take n xs) ≡ all_b n (λ i. q (get_or xs i d))
+unfolding all_b
+all-list q d xs zero h = refl
+all-list q d xs (suc n) h =
+    ap (λ (k : ℕ). list_all q (take k xs)) (sym (add-one n))
+    ∙ list_all_more q xs n d (omega arith)
+    ∙ ap (λ (a : Bool). a && q (get_or xs n d)) (all-list q d xs n (omega arith))
+    ∙ both-and (all_b n (λ i. q (get_or xs i d))) (q (get_or xs n d))

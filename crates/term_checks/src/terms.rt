@@ -13,10 +13,9 @@ pub fn degree_of(t: Term, n: usize) -> u64
     requires { n ≤ n_max }
     ensures { result ≡ degree n (exp_of t) }
 {
-    let exps = t.exps;
-    let mut sum: u64 = 0;
-    for k in 0..n {
-        sum += exps[k] as u64;
+    let mut sum = 0;
+    for e in &t.exps[..n] {
+        sum += u64::from(*e);
     }
     sum
 }
@@ -25,70 +24,39 @@ pub fn stands_before(t: Term, u: Term, n: usize) -> bool
     requires { n ≤ n_max }
     ensures { result ≡ falls t u n }
 {
-    let high = t.exps;
-    let low = u.exps;
-    for k in 0..n {
-        if low[k] < high[k] {
-            return true;
-        }
-        if high[k] < low[k] {
-            return false;
-        }
-    }
-    false
+    u.exps[..n] < t.exps[..n]
 }
 
 pub fn good_term(t: Term, n: usize) -> bool
     requires { n ≤ n_max }
     ensures { result ≡ good_term t n }
 {
-    if t.coef == 0 {
-        return false;
-    }
-    degree_of(t, n) <= DEGREE
+    t.coef != 0 && degree_of(t, n) <= DEGREE
 }
 
 pub fn good_terms(q: Equation, n: usize) -> bool
     requires { n ≤ n_max }
     ensures { result ≡ good_terms q n }
 {
-    let count = q.count;
-    if TERMS < count {
+    if TERMS < q.count {
         return false;
     }
-    let terms = q.terms;
-    for k in 0..count {
-        let t = terms[k];
-        if !good_term(t, n) {
+    for k in 0..q.count {
+        if !good_term(q.terms[k], n) {
             return false;
         }
-        if 0 < k {
-            let before = k - 1;
-            let u = terms[before];
-            if !stands_before(u, t, n) {
-                return false;
-            }
+        if 0 < k && !stands_before(q.terms[k - 1], q.terms[k], n) {
+            return false;
         }
     }
     true
 }
 
-// The terms that have a place.
-fn placed(count: usize) -> usize
-    ensures { result ≡ min count terms_max }
-{
-    if TERMS < count {
-        return TERMS;
-    }
-    count
-}
-
+// Of the terms that have a place.
 pub fn good_coefs(q: Equation) -> bool
     ensures { result ≡ good_coefs q }
 {
-    let count = placed(q.count);
-    for k in 0..count {
-        let t = q.terms[k];
+    for t in &q.terms[..q.count.min(TERMS)] {
         if !within(t.coef, ENTRY) {
             return false;
         }

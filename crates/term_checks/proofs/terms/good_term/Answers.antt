@@ -10,16 +10,16 @@ use Rattle.term_checks.specs.Terms.{good_term}
 use Rattle.term_checks.proofs.TermLaws.{abs-zero}
 use Rattle.term_checks.proofs.terms.good_term.Goals as goal
 
-pub returns-then-t-eq0 : goal.returns-then-t-eq0
+pub returns-then-t-ne0 : goal.returns-then-t-ne0
 unfolding good_term
-returns-then-t-eq0 c =
+returns-then-t-ne0 c =
+    let z = c.args.t.coef in
+    rw (ne_eqb (nat_abs z) 0 (λ e. c.if-t-ne0.true (ap (of_z w64) (abs-zero z e))), c.degree_of.ensures)
+
+pub returns-else-t-ne0 : goal.returns-else-t-ne0
+unfolding good_term
+returns-else-t-ne0 c =
     let z = c.args.t.coef in
     let h : SFits w64 z = search rules in
     let o : SFits w64 (pos 0) = search rules in
-    rw (eq-eqb (nat_abs z) 0 (ap nat_abs (eq-bits h o c.if-t-eq0.true)))
-
-pub returns : goal.returns
-unfolding good_term
-returns c =
-    let z = c.args.t.coef in
-    rw (ne_eqb (nat_abs z) 0 (λ e. c.if-t-eq0.false (ap (of_z w64) (abs-zero z e))), c.degree_of.ensures)
+    rw (eq-eqb (nat_abs z) 0 (ap nat_abs (eq-bits h o c.if-t-ne0.false)), eq-eqb (of_z w64 z) 0 c.if-t-ne0.false)
