@@ -20,8 +20,9 @@ use Rattle.scan.proofs.Parts.{part_length, part_none, part-cons}
 use Rattle.scan.proofs.Tests.{at-yes, at-no, not-ended, is-ended}
 use Rattle.scan.proofs.Counting.{ends_at}
 use Rattle.scan.proofs.Keyed.{key-long, no_body, same_end, body_at}
-use Rattle.term_read.specs.Lines.{no_digit, digit_of, DigitOf, DigitFrom}
-use Rattle.term_read.specs.declared.DigitAt.{DigitAt}
+use Rattle.scan.specs.declared.At.{At}
+use Rattle.std.specs.Prelude.{Option, Some, None}
+use Rattle.term_read.specs.Lines.{digit_of, DigitOf, DigitFrom}
 use Rattle.term_read.proofs.Single.{digit_low}
 
 one_byte : (b : ℕ) → one_digit (b ∷ []) ≡ is_digit b
@@ -63,7 +64,7 @@ module _ (t : List ℕ) (a : ℕ) (h : a ≤ length t) where
       go z l false e = refl
 
   is_one : a < length t → is_digit (get_or t a 0) ≡ true → is_at t (a + 1) line_feed ≡ true
-      → DigitOf (line_of t a) t a (record { ok = true; digit = get_or t a 0 - digit0; next = a + 2 })
+      → DigitOf (line_of t a) t a (Some (record { value = get_or t a 0 - digit0; next = a + 2 }))
   unfolding digit_of
   is_one l d z =
       let y = at-yes t (a + 1) line_feed z in
@@ -72,25 +73,25 @@ module _ (t : List ℕ) (a : ℕ) (h : a ≤ length t) where
       let w = sym (ends_at t a (a + 1) (omega arith) b z) in
       let o = line-one w (omega (arith, y.0)) in
       rw (o, is-ended t a (one_digit (get_or t a 0 ∷ [])) (omega (arith, y.0)) (one_byte (get_or t a 0) ∙ d), w)
-      (ap (λ (i : ℕ). record { ok = true; digit = get_or t a 0 - digit0; next = i }) (omega arith))
+      (ap (λ (i : ℕ). Some (record { value = get_or t a 0 - digit0; next = i })) (omega arith))
 
-module _ (t key : List ℕ) (from : ℕ) (h : from ≤ length t) (r : DigitAt) where
-  pub other_key : starts_with key (drop from t) ≡ false → r ≡ no_digit → DigitFrom key t from r
+module _ (t key : List ℕ) (from : ℕ) (h : from ≤ length t) where
+  pub other_key : starts_with key (drop from t) ≡ false → DigitFrom key t from None
   unfolding digit_of
-  other_key z e = rw (no_body t key from h z, not-ended t from (one_digit []) (λ l. empty)) e
+  other_key z = rw (no_body t key from h z, not-ended t from (one_digit []) (λ l. empty)) refl
 
   module _ (a : no_feed key ≡ true) (y : starts_with key (drop from t) ≡ true) where
-    keyed : DigitOf (line_of t (from + length key)) t (from + length key) r → DigitFrom key t from r
+    keyed : {r : Option (At ℕ)} → DigitOf (line_of t (from + length key)) t (from + length key) r
+        → DigitFrom key t from r
     keyed e = rw (body_at t key from h a y, ← same_end t key from h a y) e
 
-    pub no_digit_lem : (from + length key < length t → is_digit (get_or t (from + length key) 0) ≡ true
-        → is_at t (from + length key + 1) line_feed ≡ false)
-        → r ≡ no_digit → DigitFrom key t from r
+    pub no_digit : (from + length key < length t → is_digit (get_or t (from + length key) 0) ≡ true
+        → is_at t (from + length key + 1) line_feed ≡ false) → DigitFrom key t from None
     unfolding digit_of
-    no_digit_lem n e = keyed (rw (not-one t (from + length key) (key-long t key from h y) n) e)
+    no_digit n = keyed (rw (not-one t (from + length key) (key-long t key from h y) n) refl)
 
     pub one-digit : from + length key < length t → is_digit (get_or t (from + length key) 0) ≡ true
         → is_at t (from + length key + 1) line_feed ≡ true
-        → r ≡ record { ok = true; digit = get_or t (from + length key) 0 - digit0; next = from + length key + 2 }
-        → DigitFrom key t from r
-    one-digit l d z e = keyed (e ∙ is_one t (from + length key) (key-long t key from h y) l d z)
+        → DigitFrom key t from
+        (Some (record { value = get_or t (from + length key) 0 - digit0; next = from + length key + 2 }))
+    one-digit l d z = keyed (is_one t (from + length key) (key-long t key from h y) l d z)

@@ -5,7 +5,7 @@ use mathlib.Core.List.{List, [], ◌∷◌}
 use mathlib.Core.Bool.{Bool, true, false, cond, not, ◌||◌, true≢false}
 use lib.ListN.{length, take, drop, get_or, set, replicate}
 use lib.Dec.{eqb, leb}
-use lib.IntN.{pos}
+use lib.IntN.{ℤ, pos}
 use Rattle.sizes.specs.Sizes.{terms_max, entry_max}
 use Rattle.digits.specs.Bytes.{comma}
 use Rattle.digits.specs.Number.{read_number}
@@ -17,7 +17,7 @@ use Rattle.jobs.specs.Zero.{zero_term}
 use Rattle.term_checks.proofs.RangeLaws.{each_all}
 use Rattle.text.specs.Cut.{Cut, fresh, feed, feeds}
 use Rattle.text.specs.Keys.{starts_with, body_of}
-use Rattle.term_text.specs.declared.Terms.{Terms}
+use Rattle.term_text.specs.Terms.{Terms}
 use Rattle.term_text.specs.Terms.{no_terms, misspelled, put_term, add_coef, add_parts, add_term, last_term}
 use Rattle.digits.specs.Digits.{all_digits}
 use Rattle.text.specs.Words.{eq_key}

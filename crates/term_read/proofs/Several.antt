@@ -3,15 +3,16 @@ use Prim.Native.Nat.{ℕ, ◌+◌, ◌-◌, ◌≤◌, ◌<◌}
 use native.Mathlib.Omega.{arith}
 use mathlib.Core.Path.{◌≡◌, refl, sym, ap, ◌∙◌}
 use mathlib.Core.List.{List}
-use mathlib.Core.Bool.{Bool, true, false, cond, not, ◌||◌, true≢false}
-use lib.ListN.{length, take, drop, get_or, set, replicate, length-set}
+use mathlib.Core.Bool.{Bool, true, false, cond, ◌||◌, true≢false}
+use lib.ListN.{length, take, drop, get_or, set}
 use lib.Dec.{leb, eqb}
+use lib.IntN.{ℤ}
 use borrow.Author.Tests.{ne_eqb}
-use Rattle.sizes.specs.Sizes.{terms_max}
 use Rattle.digits.specs.Bytes.{line_feed, comma}
 use Rattle.digits.specs.Number.{read_number}
 use Rattle.digits.proofs.Cases.{either}
-use Rattle.jobs.specs.Zero.{zero_term, zero_equation}
+use Rattle.jobs.specs.Zero.{zero_equation}
+use Rattle.jobs.specs.declared.Equation.{Equation}
 use Rattle.jobs.specs.declared.Term.{Term}
 use Rattle.text.specs.Cut.{fresh, feeds}
 use Rattle.text.specs.Keys.{starts_with}
@@ -19,7 +20,7 @@ use Rattle.text.specs.Words.{eq_key}
 use Rattle.term_text.specs.Terms.{colon, exponents, no_terms, misspelled, put_term}
 use Rattle.digits.specs.Digits.{all_digits}
 use Rattle.term_text.specs.Terms.{add_coef, add_parts, add_term, last_term, read_terms, read_equation}
-use Rattle.term_text.specs.declared.Terms.{Terms}
+use Rattle.term_text.specs.Terms.{Terms}
 use Rattle.reading.specs.Places.{line_end}
 use Rattle.reading.proofs.Ends.{line-end}
 use Rattle.scan.specs.Fields.{is_at}
@@ -30,9 +31,10 @@ use Rattle.scan.proofs.Fields.{Steps, OnlyField, Onward, next_field, last-field,
 use Rattle.scan.proofs.Counting.{ends_at}
 use Rattle.scan.proofs.Keyed.{no_key, has_key, same_end, body_at}
 use Rattle.term_read.specs.Terms.{OnlyTerm}
-use Rattle.term_read.specs.Lines.{is_mark, is_far, bad_terms, TermsOf, TermsFrom}
-use Rattle.term_read.specs.declared.TermsAt.{TermsAt}
-use Rattle.std.specs.Prelude.{Some, None, Option}
+use Rattle.term_read.specs.Lines.{is_mark, is_far, TermsOf, TermsFrom}
+use Rattle.scan.specs.declared.At.{At}
+use Rattle.term_read.specs.declared.Terms.{Terms as Taken}
+use Rattle.std.specs.Prelude.{Result, Ok, Err, Some, None, Option}
 
 -- ---- a term is a field
 
@@ -77,24 +79,19 @@ term-field h =
 abbrev whole_of : ℕ → List ℕ → ℕ → Terms
 whole_of n t from = last_term n (feeds (add_term n) comma (fresh no_terms) (line_of t from))
 
-abbrev listed : Bool → ℕ → List Term → Terms
-listed far count terms = record { ok = true; far = far; equation = record { count = count; terms = terms } }
+abbrev read_so : Bool → Equation → Terms
+read_so far q = record { ok = true; far = far; equation = q }
 
--- what is left to do: the terms from a on, or none, and then the next line begins at a
-abbrev Left : Bool → ℕ → List ℕ → ℕ → Terms → ℕ → Type 0
-Left true n t from l a = Onward (term_steps n) t from a l (whole_of n t from)
-Left false n t from l a = (a ≡ line_end t from + 1) × (line_end t from < length t) × (l ≡ whole_of n t from)
-
-pub record Inv (t : List ℕ) (from n : ℕ) (terms : List Term) (far : Bool) (count a : ℕ) (more : Bool) : Type 0 where
+-- the terms before a are read
+pub record Inv (t : List ℕ) (from n : ℕ) (q : Equation) (far : Bool) (a : ℕ) : Type 0 where
   pub start : from ≤ length t
   pub some : is_at t from line_feed ≡ false
   pub inside : a ≤ length t
-  pub few : count ≤ a
-  pub long : length terms ≡ terms_max
-  pub left : Left more n t from (listed far count terms) a
+  pub few : q.count ≤ a
+  pub left : Onward (term_steps n) t from a (read_so far q) (whole_of n t from)
 
 pub begins : (t : List ℕ) (from n : ℕ) → from ≤ length t → is_at t from line_feed ≡ false
-    → Inv t from n (replicate terms_max zero_term) false 0 from true
+    → Inv t from n zero_equation false from
 unfolding no_terms last_term
 begins t from n h z =
     record {
@@ -102,7 +99,6 @@ begins t from n h z =
       some = z;
       inside = h;
       few = omega arith;
-      long = refl;
       left = record { start = h; begun = omega arith; room = (line-end t from h).after; makes = refl };
     }
 
@@ -120,29 +116,32 @@ reads_whole t from n h z l =
     let k = part_length t from (line_end t from) p.after p.inside in
     rw (ne_eqb (length (line_of t from)) 0 (λ y. omega (arith, y, k)))
 
-module _ (read : List ℕ → Terms) (t : List ℕ) (from : ℕ) {r : TermsAt} where
+module _ (read : List ℕ → Terms) (t : List ℕ) (from : ℕ) where
   no-terms : (count next : ℕ) → count ≤ next → next ≤ length t → ended_and t from (read (line_of t from)).ok ≡ false
-      → r ≡ bad_terms count next → TermsFrom read t from r
+      → TermsFrom read t from (Err (record { value = count; next = next }))
   unfolding TermsOf
-  no-terms count next p q z e = rw e (record { answer = rw z refl; few = p; inside = q })
+  no-terms count next p q z = record { answer = rw z refl; few = p; inside = q }
 
-  all-terms : (l : Terms) → l.equation.count ≤ line_end t from + 1 → line_end t from < length t
+  all-terms : (l : Terms) (next : ℕ) → next ≡ line_end t from + 1 → l.equation.count ≤ next → line_end t from < length t
       → read (line_of t from) ≡ l → l.ok ≡ true
-      → r ≡ record { ok = true; far = l.far; next = line_end t from + 1; equation = l.equation } → TermsFrom read t
-      from r
+      → TermsFrom read t from (Ok (record { value = record { far = l.far; equation = l.equation }; next = next }))
   unfolding TermsOf
-  all-terms l p h w y e =
-      rw e (record { answer = rw (w, is-ended t from l.ok h y) refl; few = p; inside = omega (arith, h) })
+  all-terms l next e p h w y =
+      record {
+        answer = rw (w, is-ended t from l.ok h y, e) refl;
+        few = p;
+        inside = omega (arith, h, e);
+      }
 
 pub empty-line : (t : List ℕ) (from n : ℕ) → is_at t from line_feed ≡ true
-    → TermsFrom (read_terms n) t from (record { ok = true; far = false; next = from + 1; equation = zero_equation })
+    → TermsFrom (read_terms n) t from
+    (Ok (record { value = record { far = false; equation = zero_equation }; next = from + 1 }))
 unfolding read_terms no_terms
 empty-line t from n z =
     let y = at-yes t from line_feed z in
     let w : from ≡ line_end t from = ends_at t from from (omega arith) (λ k p q. absurd (omega arith)) z in
-    all-terms (read_terms n) t from no_terms (omega arith) (omega (arith, y.0))
+    all-terms (read_terms n) t from no_terms (from + 1) (omega arith) (omega arith) (omega (arith, y.0))
     (rw (part_none t from (line_end t from) (omega arith))) refl
-    (ap (λ (i : ℕ). record { ok = true; far = false; next = i + 1; equation = zero_equation }) w)
 
 or_fst : (b c : Bool) → (b || c) ≡ false → b ≡ false
 or_fst true c e = e
@@ -156,74 +155,68 @@ mark-is : (c l : Bool) → (c || l) ≡ true → l ≡ false → c ≡ true
 mark-is true l e z = refl
 mark-is false l e z = sym z ∙ e
 
-module _ {t : List ℕ} {from n : ℕ} {terms : List Term} {far : Bool} {count a : ℕ}
-    (inv : Inv t from n terms far count a true)
+module _ {t : List ℕ} {from n : ℕ} {q : Equation} {far : Bool} {a : ℕ} (inv : Inv t from n q far a)
     {x : Term} {next : ℕ} (h : OnlyTerm t a n x next) where
   -- a bad field makes a bad line
-  not-whole : {r : TermsAt} → r ≡ bad_terms count a → (line_end t from < length t → (whole_of n t from).ok ≡ false)
-      → TermsFrom (read_terms n) t from r
-  not-whole e w =
-      no-terms (read_terms n) t from count a inv.few inv.inside
+  not-whole : (line_end t from < length t → (whole_of n t from).ok ≡ false)
+      → TermsFrom (read_terms n) t from (Err (record { value = q.count; next = a }))
+  not-whole w =
+      no-terms (read_terms n) t from q.count a inv.few inv.inside
       (not-ended t from (read_terms n (line_of t from)).ok
       (λ l. ap (λ (y : Terms). y.ok) (reads_whole t from n inv.start inv.some l) ∙ w l))
-      e
 
-  pub none-there : next ≡ a → {r : TermsAt} → r ≡ bad_terms count a → TermsFrom (read_terms n) t from r
-  none-there z e = not-whole e (λ l. no_field (term_steps n) inv.left (term-field h) z)
+  pub none-there : next ≡ a → TermsFrom (read_terms n) t from (Err (record { value = q.count; next = a }))
+  none-there z = not-whole (λ l. no_field (term_steps n) inv.left (term-field h) z)
 
-  pub other-mark : is_mark t next ≡ false → {r : TermsAt} → r ≡ bad_terms count a → TermsFrom (read_terms n) t from r
-  other-mark z e =
-      not-whole e
+  pub other-mark : is_mark t next ≡ false
+      → TermsFrom (read_terms n) t from (Err (record { value = q.count; next = a }))
+  other-mark z =
+      not-whole
       (λ l.
       no-mark (term_steps n) inv.left (term-field h)
       (or_snd (is_at t next comma) (is_at t next line_feed) z)
       (or_fst (is_at t next comma) (is_at t next line_feed) z) l)
 
-  module _ (some : next ≡ a → ⊥) (mark : is_mark t next ≡ true) {new : List Term} (put : new ≡ set terms count x) where
-    left-on : (b : Bool) → is_at t next line_feed ≡ b
-        → Left (not b) n t from (listed (far || is_far x) (count + 1) new) (next + 1) × (next < length t)
+  module _ (some : a < next) {new : List Term} (put : new ≡ set q.terms q.count x) where
+    pub again : is_mark t next ≡ true → is_at t next line_feed ≡ false
+        → Inv t from n (record { count = q.count + 1; terms = new }) (far || is_far x) (next + 1)
     unfolding put_term
-    left-on true z =
-        let f = last-field (term_steps n) inv.left (term-field h) some z in
-        ((omega (arith, f.0), f.1, rw put f.2), omega (arith, f.0, f.1))
-    left-on false z =
+    again mark z =
         let c = mark-is (is_at t next comma) (is_at t next line_feed) mark z in
-        (rw put (next_field (term_steps n) inv.left (term-field h) some c), (at-yes t next comma c).0)
-
-    pub again : Inv t from n new (far || is_far x) (count + 1) (next + 1) (not (is_at t next line_feed))
-    again =
-        let l = left-on (is_at t next line_feed) refl in
         record {
           start = inv.start;
           some = inv.some;
-          inside = omega (arith, l.1);
-          few = omega (arith, inv.few, h.after);
-          long = rw put (length-set terms count x ∙ inv.long);
-          left = l.0;
+          inside = omega (arith, (at-yes t next comma c).0);
+          few = omega (arith, inv.few);
+          left = rw put (next_field (term_steps n) inv.left (term-field h) (λ z. omega (arith, z)) c);
         }
 
-pub all_read : {t : List ℕ} {from n : ℕ} {terms : List Term} {far : Bool} {count a : ℕ}
-    → Inv t from n terms far count a false
-    → TermsFrom (read_terms n) t from
-    (record { ok = true; far = far; next = a; equation = record { count = count; terms = terms } })
-all_read {t} {from} {n} {terms} {far} {count} inv =
-    let d = inv.left in
-    all-terms (read_terms n) t from (listed far count terms) (omega (arith, inv.few, d.0)) d.1
-    (reads_whole t from n inv.start inv.some d.1 ∙ sym d.2) refl
-    (ap (λ (i : ℕ). record { ok = true; far = far; next = i; equation = record { count = count; terms = terms } })
-    d.0)
+    pub all_read : is_at t next line_feed ≡ true
+        → TermsFrom (read_terms n) t from
+        (Ok
+        (record {
+          value = record { far = far || is_far x; equation = record { count = q.count + 1; terms = new } };
+          next = next + 1;
+        }))
+    unfolding put_term
+    all_read z =
+        let f = last-field (term_steps n) inv.left (term-field h) (λ z. omega (arith, z)) z in
+        let l = read_so (far || is_far x) (record { count = q.count + 1; terms = new }) in
+        all-terms (read_terms n) t from l (next + 1) (omega (arith, f.0)) (omega (arith, inv.few)) f.1
+        (reads_whole t from n inv.start inv.some f.1 ∙ rw put (sym f.2)) refl
 
 -- ---- after the key
 
-module _ (t : List ℕ) (from n : ℕ) (h : from ≤ length t) {r : TermsAt} where
-  pub other_key : starts_with eq_key (drop from t) ≡ false → r ≡ bad_terms 0 from → TermsFrom (read_equation n) t from r
+module _ (t : List ℕ) (from n : ℕ) (h : from ≤ length t) where
+  pub other_key : starts_with eq_key (drop from t) ≡ false
+      → TermsFrom (read_equation n) t from (Err (record { value = 0; next = from }))
   unfolding read_equation
-  other_key z e =
+  other_key z =
       no-terms (read_equation n) t from 0 from (omega arith) h
-      (not-ended t from (read_equation n (line_of t from)).ok (λ l. rw (no_key t eq_key from h z) (bad no_terms))) e
+      (not-ended t from (read_equation n (line_of t from)).ok (λ l. rw (no_key t eq_key from h z) (bad no_terms)))
 
-  pub keyed : starts_with eq_key (drop from t) ≡ true → TermsFrom (read_terms n) t (from + length eq_key) r
-      → TermsFrom (read_equation n) t from r
+  pub keyed : starts_with eq_key (drop from t) ≡ true → {r : Result (At Taken) (At ℕ)}
+      → TermsFrom (read_terms n) t (from + length eq_key) r → TermsFrom (read_equation n) t from r
   unfolding read_equation
   keyed y e =
       record {

@@ -1,9 +1,9 @@
 -- A term, taken where it stands, is the field that it ends.
 use Prim.Native.Nat.{ℕ, ◌+◌, ◌-◌, ◌≤◌, ◌<◌}
 use native.Mathlib.Omega.{arith}
-use mathlib.Core.Path.{◌≡◌, refl, sym, ap, ◌∙◌}
+use mathlib.Core.Path.{◌≡◌, refl, sym, ◌∙◌}
 use mathlib.Core.List.{List}
-use mathlib.Core.Bool.{Bool, true, false, cond, ◌&&◌, true≢false, false≢true}
+use mathlib.Core.Bool.{Bool, true, false, cond, ◌&&◌, false≢true}
 use lib.ListN.{length, get_or}
 use lib.IntN.{ℤ}
 use lib.Dec.{leb, eqb}
@@ -13,7 +13,7 @@ use Rattle.digits.specs.Bytes.{digit0, digit9}
 use Rattle.digits.specs.Number.{read_number}
 use Rattle.digits.proofs.Cases.{either, same_or}
 use Rattle.jobs.specs.Zero.{zero_term}
-use Rattle.term_text.specs.declared.Terms.{Terms}
+use Rattle.term_text.specs.Terms.{Terms}
 use Rattle.term_text.specs.Terms.{colon, exponents, put_term, misspelled, add_coef, add_parts, add_term}
 use Rattle.digits.specs.Digits.{is_digit, all_digits}
 use Rattle.reading.specs.Places.{part}
@@ -21,7 +21,6 @@ use Rattle.scan.specs.Fields.{OnlyNumber}
 use Rattle.scan.proofs.Listing.{number-here, number-other}
 use Rattle.scan.proofs.Parts.{part_length, part_at, part-take, part-drop}
 use Rattle.term_read.specs.Terms.{exps_of, OnlyTerm}
-use Rattle.term_read.specs.declared.Exps.{Exps}
 use Rattle.std.specs.Prelude.{Some, None, Option}
 
 coef-bad : (acc : Terms) (v : Option ℤ) (exps : List ℕ) → v ≡ None → add_coef acc v exps ≡ misspelled acc
@@ -150,19 +149,19 @@ module _ (s : List ℕ) (a n : ℕ) (v : ℤ) (c : ℕ) (num : OnlyNumber s a v 
 
 -- ---- what the exponents' answer says
 
-module _ (n : ℕ) (l : List ℕ) (r : Exps) (e : r ≡ exps_of n l) where
-  pub exps-yes : r.ok ≡ true → (all_digits l ≡ true) × (r.exps ≡ exponents n l)
+module _ (n : ℕ) (l : List ℕ) where
+  pub exps-yes : (exps : List ℕ) → Some exps ≡ exps_of n l → (all_digits l ≡ true) × (exps ≡ exponents n l)
   unfolding exps_of
-  exps-yes z = go (all_digits l) refl
+  exps-yes exps e = go (all_digits l) refl
     where
-      go : (b : Bool) → all_digits l ≡ b → (all_digits l ≡ true) × (r.exps ≡ exponents n l)
-      go true y = (y, ap (λ (x : Exps). x.exps) (rw y at e))
-      go false y = absurd (true≢false (sym z ∙ ap (λ (x : Exps). x.ok) (rw y at e)))
+      go : (b : Bool) → all_digits l ≡ b → (all_digits l ≡ true) × (exps ≡ exponents n l)
+      go true y = (y, let w : Some exps ≡ Some (exponents n l) = rw y at e in cc)
+      go false y = let w : Some exps ≡ None = rw y at e in cc
 
-  pub exps-no : r.ok ≡ false → all_digits l ≡ false
+  pub exps-no : None ≡ exps_of n l → all_digits l ≡ false
   unfolding exps_of
-  exps-no z = go (all_digits l) refl
+  exps-no e = go (all_digits l) refl
     where
       go : (b : Bool) → all_digits l ≡ b → all_digits l ≡ false
-      go true y = absurd (false≢true (sym z ∙ ap (λ (x : Exps). x.ok) (rw y at e)))
+      go true y = let w : None ≡ Some (exponents n l) = rw y at e in cc
       go false y = y

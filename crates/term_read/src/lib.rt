@@ -1,58 +1,31 @@
 // The terms of an `eq` line, each taken where it stands.
 #![tactic(auto)]
 
-ghost use Rattle.std.specs.Prelude.{◌≡◌, true, ◌||◌, ◌+◌, ◌≤◌, length};
+ghost use Rattle.std.specs.Prelude.{◌≡◌, true, ◌+◌, ◌≤◌, length, set};
 ghost use Rattle.sizes.specs.Sizes.{n_max};
-ghost use Rattle.jobs.specs.Zero.{zero_term};
 ghost use Rattle.term_text.specs.Terms.{read_terms, read_equation};
 ghost use Rattle.reading.specs.Places.{part};
 ghost use Rattle.scan.specs.Lines.{no_feed};
-ghost use Rattle.term_read.specs.Terms.{exps_of, OnlyTerm};
-ghost use Rattle.term_read.specs.Lines.{is_mark, is_far, bad_terms, TermsFrom};
-ghost use Rattle.term_read.specs.Lines.{no_digit, DigitFrom};
+ghost use Rattle.term_read.specs.Terms.{exps_of, TermAt};
+ghost use Rattle.term_read.specs.Lines.{is_mark, is_far, TermsFrom, DigitFrom};
 
 use digits::is_digit;
 use jobs::zero::{zero_equation, zero_term};
 use jobs::{Equation, Term};
 use scan::lines::key_at;
-use scan::{is_at, number_at};
+use scan::{At, is_at, number_at};
 use sizes::{ENTRY, N, TERMS};
 use term_checks::ranges::within;
 
-// Exponents, if each byte is a digit.
+// A line's terms: whether a coefficient is beyond its size, how many there are, and the first of them.
 #[derive(Clone, Copy)]
-struct Exps {
-    ok: bool,
-    exps: [u8; N],
-}
-
-// A term and the place after it, `from` itself where none is spelled.
-#[derive(Clone, Copy)]
-struct TermAt {
-    next: usize,
-    term: Term,
-}
-
-// A line's terms: whether it is well spelled, whether a coefficient is beyond its size, where the next line begins,
-// and the first of them. Of a line that is wrongly spelled: where the first wrong term begins, and how many stand
-// before it.
-#[derive(Clone, Copy)]
-pub struct TermsAt {
-    pub ok: bool,
+pub struct Terms {
     pub far: bool,
-    pub next: usize,
     pub equation: Equation,
 }
 
-// A line's one digit: whether it is well spelled, what the digit stands for, and where the next line begins.
-#[derive(Clone, Copy)]
-pub struct DigitAt {
-    pub ok: bool,
-    pub digit: usize,
-    pub next: usize,
-}
-
-fn exps_at(s: &[u8], from: usize, n: usize) -> Exps
+// Exponents, if each byte is a digit.
+fn exps_at(s: &[u8], from: usize, n: usize) -> Option<[u8; N]>
     requires { (n ≤ n_max) × (from + n ≤ length s.now) }
     ensures { result ≡ exps_of n (part s.now from (from + n)) }
 {
@@ -60,65 +33,40 @@ fn exps_at(s: &[u8], from: usize, n: usize) -> Exps
     for k in 0..n {
         let b = s[from + k];
         if !is_digit(b) {
-            return Exps {
-                ok: false,
-                exps: [0; N],
-            };
+            return None;
         }
         exps[k] = b - b'0';
     }
-    Exps { ok: true, exps }
-}
-
-fn none_at(from: usize) -> TermAt
-    ensures { (result.next ≡ from) × (result.term ≡ zero_term) }
-{
-    TermAt {
-        next: from,
-        term: zero_term(),
-    }
+    Some(exps)
 }
 
 // "terms `coefficient:exponents`, one digit for each unknown"
-fn term_at(s: &[u8], from: usize, n: usize) -> TermAt
+fn term_at(s: &[u8], from: usize, n: usize) -> Option<At<Term>>
     requires { (n ≤ n_max) × (from ≤ length s.now) }
-    ensures { OnlyTerm s.now from n result.term result.next }
+    ensures { TermAt s.now from n result }
 {
-    let r = number_at(s, from);
-    let c = r.next;
-    if c == from {
-        return none_at(from);
-    }
+    let number = number_at(s, from)?;
+    let c = number.next;
     if !is_at(s, c, b':') {
-        return none_at(from);
+        return None;
     }
     if s.len() - c <= n {
-        return none_at(from);
+        return None;
     }
-    let x = exps_at(s, c + 1, n);
-    if !x.ok {
-        return none_at(from);
-    }
-    let exps = x.exps;
-    TermAt {
+    let exps = exps_at(s, c + 1, n)?;
+    Some(At {
+        value: Term {
+            coef: number.value,
+            exps,
+        },
         next: c + 1 + n,
-        term: Term { coef: r.v, exps },
-    }
-}
-
-fn or(a: bool, b: bool) -> bool
-    ensures { result ≡ (a || b) }
-{
-    if a {
-        return true;
-    }
-    b
+    })
 }
 
 fn is_mark(s: &[u8], at: usize) -> bool
     ensures { result ≡ is_mark s.now at }
 {
-    or(is_at(s, at, b','), is_at(s, at, b'\n'))
+    is_at(s, at, b',') || is_at(s, at, b'\n')
 }
 
 fn is_far(t: Term) -> bool
@@ -127,19 +75,12 @@ fn is_far(t: Term) -> bool
     !within(t.coef, ENTRY)
 }
 
-// After so many terms comes a wrong one, at this place.
-fn bad_terms(count: usize, next: usize) -> TermsAt
-    ensures { result ≡ bad_terms count next }
+// The term at its place, if there is one.
+fn put_term(terms: &mut [Term; TERMS], at: usize, t: Term)
+    ensures { terms.new ≡ set terms.old at t }
 {
-    let zero = zero_term();
-    TermsAt {
-        ok: false,
-        far: false,
-        next,
-        equation: Equation {
-            count,
-            terms: [zero; TERMS],
-        },
+    if at < TERMS {
+        terms[at] = t;
     }
 }
 
@@ -148,100 +89,88 @@ pub fn bounded(n: usize) -> usize
     requires { n ≤ n_max }
     ensures { result ≡ n }
 {
-    if n < N { n } else { N }
+    n.min(N)
 }
 
-// The terms of a line from after its key.
-pub fn terms_from(s: &[u8], from: usize, n: usize) -> TermsAt
+// The terms of a line from after its key, however many: those that have a place are kept. Of a line that is wrongly
+// spelled: how many terms stand before the first wrong one, and where it begins.
+pub fn terms_from(s: &[u8], from: usize, n: usize) -> Result<At<Terms>, At<usize>>
     requires { (n ≤ n_max) × (from ≤ length s.now) }
     ensures { TermsFrom (read_terms n) s.now from result }
 {
     if is_at(s, from, b'\n') {
-        return TermsAt {
-            ok: true,
-            far: false,
+        return Ok(At {
+            value: Terms {
+                far: false,
+                equation: zero_equation(),
+            },
             next: from + 1,
-            equation: zero_equation(),
-        };
+        });
     }
     let few = bounded(n);
-    let zero = zero_term();
-    let mut terms = [zero; TERMS];
+    let mut q = zero_equation();
     let mut far = false;
-    let mut count = 0;
     let mut a = from;
-    let mut more = true;
-    while more {
-        let r = term_at(s, a, few);
-        let next = r.next;
-        if next == a {
-            return bad_terms(count, a);
-        }
+    loop {
+        let Some(term) = term_at(s, a, few) else {
+            return Err(At {
+                value: q.count,
+                next: a,
+            });
+        };
+        let next = term.next;
         if !is_mark(s, next) {
-            return bad_terms(count, a);
+            return Err(At {
+                value: q.count,
+                next: a,
+            });
         }
-        let t = r.term;
-        let at = count;
-        far = or(far, is_far(t));
-        more = !is_at(s, next, b'\n');
+        far |= is_far(term.value);
+        put_term(&mut q.terms, q.count, term.value);
+        q.count += 1;
         a = next + 1;
-        count += 1;
-        if at < TERMS {
-            terms[at] = t;
+        if is_at(s, next, b'\n') {
+            return Ok(At {
+                value: Terms { far, equation: q },
+                next: a,
+            });
         }
-    }
-    TermsAt {
-        ok: true,
-        far,
-        next: a,
-        equation: Equation { count, terms },
     }
 }
 
-// The terms of an `eq` line, however many: those that have a place are kept.
-pub fn terms_at(s: &[u8], from: usize, n: usize) -> TermsAt
+// The terms of an `eq` line.
+pub fn terms_at(s: &[u8], from: usize, n: usize) -> Result<At<Terms>, At<usize>>
     requires { (n ≤ n_max) × (from ≤ length s.now) }
     ensures { TermsFrom (read_equation n) s.now from result }
 {
     let key = b"eq=";
     if !key_at(s, from, key) {
-        return bad_terms(0, from);
+        return Err(At {
+            value: 0,
+            next: from,
+        });
     }
     terms_from(s, from + key.len(), n)
 }
 
-fn no_digit() -> DigitAt
-    ensures { result ≡ no_digit }
-{
-    DigitAt {
-        ok: false,
-        digit: 0,
-        next: 0,
-    }
-}
-
 // The one digit of a line after its key.
-pub fn digit_at(s: &[u8], from: usize, key: &[u8]) -> DigitAt
+pub fn digit_at(s: &[u8], from: usize, key: &[u8]) -> Option<At<usize>>
     requires { (from ≤ length s.now) × (no_feed key.now ≡ true) }
     ensures { DigitFrom key.now s.now from result }
 {
     if !key_at(s, from, key) {
-        return no_digit();
+        return None;
     }
     let a = from + key.len();
-    if s.len() <= a {
-        return no_digit();
-    }
-    let b = s[a];
+    let b = *s.get(a)?;
     if !is_digit(b) {
-        return no_digit();
+        return None;
     }
     if !is_at(s, a + 1, b'\n') {
-        return no_digit();
+        return None;
     }
-    DigitAt {
-        ok: true,
-        digit: (b - b'0') as usize,
+    Some(At {
+        value: usize::from(b - b'0'),
         next: a + 2,
-    }
+    })
 }

@@ -19,6 +19,3 @@ pub record Inv (l : List ℕ) (n : ℕ) (exps : List ℕ) (k : ℕ) : Type 0 whe
 
 abbrev pub invariant-loop-k : goal.invariant-loop-k
 invariant-loop-k l = Inv (part l.s l.from (l.from + l.n)) l.n l.exps l.k
-
-abbrev pub decreases-loop-k : goal.decreases-loop-k
-decreases-loop-k l = l.n - l.k
