@@ -51,9 +51,9 @@ pub fn list_of(s: &[u8]) -> Option<[i64; N]>
 {
     let mut at = [0; N];
     let mut from = 0;
-    for i in 0..N {
+    for place in &mut at {
         let end = piece_end(s, from, b',');
-        at[i] = long_number(&s[from..end])?;
+        *place = long_number(&s[from..end])?;
         if end == s.len() {
             return Some(at);
         }

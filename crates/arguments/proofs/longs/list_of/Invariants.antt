@@ -2,5 +2,5 @@
 use Rattle.arguments.proofs.Fields.{Inv}
 use Rattle.arguments.proofs.longs.list_of.Given as goal
 
-abbrev pub invariant-loop-i : goal.invariant-loop-i
-invariant-loop-i l = Inv l.s l.at l.from l.i
+abbrev pub invariant-loop-place : goal.invariant-loop-place
+invariant-loop-place l = Inv l.s l.place-items l.from l.place-index
