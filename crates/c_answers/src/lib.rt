@@ -2,9 +2,9 @@
 #![tactic(auto)]
 
 ghost use Rattle.std.specs.Prelude.{◌≡◌};
-ghost use Rattle.c_answers.specs.Numbers.{numbers_of};
+ghost use Rattle.c_answers.specs.Numbers.{numbers_of, checked};
 
-use faults::{Status, Written};
+use faults::Checked;
 
 // `floodrafter_answer` of the header.
 #[repr(C)]
@@ -15,20 +15,26 @@ pub struct Answer {
     pub len: usize,
 }
 
-pub fn numbers(w: Written) -> Answer
-    ensures { result ≡ numbers_of w }
+pub fn numbers(written: Checked<usize>) -> Answer
+    ensures { result ≡ numbers_of written }
 {
-    let status = w.status;
-    match status {
-        Status::Done => Answer {
+    match written {
+        Ok(len) => Answer {
             fault: 0,
             line: 0,
-            len: w.len,
+            len,
         },
-        Status::Refused(f, line) => Answer {
-            fault: faults::fault_number(f),
-            line,
-            len: w.len,
+        Err(r) => Answer {
+            fault: u64::from(r.fault),
+            line: r.line,
+            len: 0,
         },
     }
+}
+
+// A check writes nothing.
+pub fn checked_numbers(status: Checked<()>) -> Answer
+    ensures { result ≡ checked status }
+{
+    numbers(status.map(|()| 0))
 }

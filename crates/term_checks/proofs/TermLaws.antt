@@ -13,34 +13,20 @@ use native.Mathlib.Numerals.{unary_clauses}
 use native.Mathlib.Omega.{arith}
 use lib.IntN.{ℤ, pos, negsuc, nat_abs}
 use lib.Dec.{eqb, ltb}
-use borrow.Author.Tests.{lt-ltb, le-ltb, eqb-true, ne_eqb}
+use borrow.Author.Tests.{lt-ltb}
 use Rattle.std.proofs.lemmas.Bool.Decides.{nat_tests}
 use Rattle.lists.specs.Loops.{both, all_b}
-use Rattle.lists.proofs.All.{all-each, all-stop, both-and}
+use Rattle.lists.proofs.All.{both-and}
 use Rattle.jobs.specs.declared.Term.{Term}
 use Rattle.jobs.specs.declared.Equation.{Equation}
 use Rattle.jobs.specs.Places.{exp_of, term_at}
 use Rattle.term_checks.specs.Terms.{alike, falls, in_order}
-use Rattle.term_checks.proofs.RangeLaws.{each_all}
 
 or_right : (a : Bool) → a || true ≡ true
 or_right true = refl
 or_right false = refl
 
 module _ (t u : Term) where
-  alike-fewer : {m n : ℕ} → m ≤ n → alike t u n ≡ true → alike t u m ≡ true
-  unfolding alike
-  alike-fewer {m} {n} h e = each_all _ m (λ i l. all-each _ n i (omega arith) e)
-
-  -- two terms with the same exponents do not stand in strictly falling order
-  pub falls-same : (n : ℕ) → alike t u n ≡ true → falls t u n ≡ false
-  unfolding falls alike
-  falls-same zero e = refl
-  falls-same (suc n) e =
-      rw (falls-same n (alike-fewer (omega arith) e), alike-fewer {m = n} (omega arith) e)
-      (le-ltb (exp_of u n) (exp_of t n)
-      (omega (arith, eqb-true (exp_of t n) (exp_of u n) (all-each _ (suc n) n (omega arith) e))))
-
   -- the first place where they differ decides
   pub falls-lower : (n k : ℕ) → k < n → alike t u k ≡ true → exp_of u k < exp_of t k → falls t u n ≡ true
   unfolding falls
@@ -49,18 +35,6 @@ module _ (t u : Term) where
     where
       here : k ≡ n → falls t u n || (alike t u n && ltb (exp_of u n) (exp_of t n)) ≡ true
       here q = rw (← q, e, lt-ltb (exp_of u k) (exp_of t k) h) (or_right (falls t u k))
-
-  pub falls-higher : (n k : ℕ) → k < n → alike t u k ≡ true → exp_of t k < exp_of u k → falls t u n ≡ false
-  unfolding falls alike
-  falls-higher zero k l e h = absurd (not-suc-le-zero l)
-  falls-higher (suc n) k l e h =
-      ⊎_elim here (λ lt. later lt (falls-higher n k lt e h)) (eq-or-lt_of_le (le_of_suc-le-suc l))
-    where
-      here : k ≡ n → falls t u n || (alike t u n && ltb (exp_of u n) (exp_of t n)) ≡ false
-      here q = rw (← q, falls-same k e, e) (le-ltb (exp_of u k) (exp_of t k) (omega arith))
-
-      later : k < n → falls t u n ≡ false → falls t u n || (alike t u n && ltb (exp_of u n) (exp_of t n)) ≡ false
-      later lt f = rw (f, all-stop _ n k lt (ne_eqb (exp_of t k) (exp_of u k) (λ q. omega arith)))
 
 then_assoc : (a b c : Ordering) → ordering_then a (ordering_then b c) ≡ ordering_then (ordering_then a b) c
 then_assoc Less b c = refl
