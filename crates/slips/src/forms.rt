@@ -2,33 +2,25 @@
 ghost use Rattle.std.specs.Prelude.{◌≤◌, length};
 ghost use Rattle.sizes.specs.Sizes.{n_max};
 
-use crate::places::past_key;
+use crate::keys::past_key;
 use crate::{Form, Key};
 use jobs::{Head, JobLine, Kind, ResultLine};
 
 // The key of a line, if it has one.
-#[derive(Clone, Copy)]
-pub enum Keyed {
-    None,
-    By(Key),
-}
-
-pub fn key_of(form: Form) -> Keyed {
+pub fn key_of(form: Form) -> Option<Key> {
     match form {
-        Form::Number => Keyed::By(Key::Job),
-        Form::Kind => Keyed::By(Key::Kind),
-        Form::Unknowns => Keyed::By(Key::Unknowns),
-        Form::Pin(_) => Keyed::By(Key::Pin),
-        Form::PinOrLo(_, _) => Keyed::By(Key::Lo),
-        Form::Unpinned(_) => Keyed::By(Key::Lo),
-        Form::Numbers(key, _) => Keyed::By(key),
-        Form::Sided(_) => Keyed::By(Key::Row),
-        Form::Terms(_) => Keyed::By(Key::Eq),
-        Form::Steps => Keyed::By(Key::Steps),
-        Form::Visit => Keyed::By(Key::Visit),
-        Form::Verdict => Keyed::By(Key::Verdict),
-        Form::Low => Keyed::By(Key::Lo),
-        Form::Nothing => Keyed::None,
+        Form::Number => Some(Key::Job),
+        Form::Kind => Some(Key::Kind),
+        Form::Unknowns => Some(Key::Unknowns),
+        Form::Pin(_) => Some(Key::Pin),
+        Form::PinOrLo(_, _) | Form::Unpinned(_) | Form::Low => Some(Key::Lo),
+        Form::Numbers(key, _) => Some(key),
+        Form::Sided(_) => Some(Key::Row),
+        Form::Terms(_) => Some(Key::Eq),
+        Form::Steps => Some(Key::Steps),
+        Form::Visit => Some(Key::Visit),
+        Form::Verdict => Some(Key::Verdict),
+        Form::Nothing => None,
     }
 }
 
@@ -36,24 +28,20 @@ pub fn key_of(form: Form) -> Keyed {
 fn after_n(text: &[u8], at: usize, n: usize) -> Form
     requires { at ≤ length text.now }
 {
-    let low = Form::Numbers(Key::Lo, n);
-    if n <= 1 {
-        return low;
+    if n <= 1 || past_key(text, at, Key::Lo).is_some() {
+        Form::Numbers(Key::Lo, n)
+    } else if past_key(text, at, Key::Pin).is_some() {
+        Form::Pin(n - 1)
+    } else {
+        Form::PinOrLo(n - 1, n)
     }
-    if at < past_key(text, at, Key::Lo) {
-        return low;
-    }
-    if at < past_key(text, at, Key::Pin) {
-        return Form::Pin(n - 1);
-    }
-    Form::PinOrLo(n - 1, n)
 }
 
 // Other jobs than an eigenpair's have no pin line, which a typist may not know.
 fn low_form(kind: Kind, n: usize) -> Form {
     match kind {
         Kind::Eigen => Form::Numbers(Key::Lo, n),
-        _ => Form::Unpinned(n),
+        Kind::Poly | Kind::Linear => Form::Unpinned(n),
     }
 }
 
@@ -71,18 +59,17 @@ fn system_form(kind: Kind, n: usize) -> Form
 pub fn job_form(text: &[u8], at: usize, line: JobLine, head: Head) -> Form
     requires { (at ≤ length text.now) × (head.n ≤ n_max) }
 {
-    let kind = head.kind;
     let n = head.n;
     match line {
         JobLine::Number => Form::Number,
         JobLine::Kind => Form::Kind,
         JobLine::Unknowns => Form::Unknowns,
         JobLine::Pin => after_n(text, at, n),
-        JobLine::Lo => low_form(kind, n),
+        JobLine::Lo => low_form(head.kind, n),
         JobLine::Hi => Form::Numbers(Key::Hi, n),
         JobLine::Inv => Form::Numbers(Key::Inv, n * n),
         JobLine::Steps => Form::Steps,
-        JobLine::System(_) => system_form(kind, n),
+        JobLine::System(_) => system_form(head.kind, n),
         JobLine::End => Form::Nothing,
     }
 }

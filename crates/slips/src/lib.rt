@@ -3,6 +3,7 @@
 #![tactic(auto)]
 
 pub mod forms;
+pub mod keys;
 mod numbers;
 pub mod places;
 pub mod spelling;
@@ -10,7 +11,7 @@ mod terms;
 pub mod values;
 
 // The keys of both texts.
-#[derive(Clone, Copy)]
+#[derive(Clone, Copy, PartialEq, Eq)]
 pub enum Key {
     Job,
     Kind,
@@ -119,14 +120,14 @@ pub enum Far {
     End(usize, i64),
     Entry(usize, i64),
     Coefficient(usize, i64),
-    Unplaced,
 }
 
 // Fault 5: the unknown, counted from 1, its low end and its high end.
 #[derive(Clone, Copy)]
-pub enum Crossing {
-    At(usize, i64, i64),
-    Unplaced,
+pub struct Crossing {
+    pub unknown: usize,
+    pub low: i64,
+    pub high: i64,
 }
 
 // Fault 6. Terms are named by their places, counted from 1; two of them stand one after the other.
@@ -137,7 +138,6 @@ pub enum TermSlip {
     Degree(usize, u64),
     Same(usize, usize),
     Order(usize, usize),
-    Unplaced,
 }
 
 // Fault 9: the last coordinate, which is pinned without a line, or a pin that does not lie from 1 to this one.
@@ -165,16 +165,15 @@ pub enum RoomSlip {
     Table,
 }
 
-// A fault with what its sentence tells.
+// A fault with what its sentence tells: of a number, two ends or a term which one it is, where that is found.
 #[derive(Clone, Copy)]
 pub enum Slip {
-    Nothing,
     Long,
     Spelled(Spelled),
     Unknowns(usize),
-    Beyond(Far),
-    Crossed(Crossing),
-    Terms(TermSlip),
+    Beyond(Option<Far>),
+    Crossed(Option<Crossing>),
+    Terms(Option<TermSlip>),
     Short,
     Steps(i64),
     Pin(i64, PinSlip),

@@ -2,36 +2,20 @@
 ghost use Rattle.std.specs.Prelude.{◌≤◌, length};
 ghost use Rattle.sizes.specs.Sizes.{n_max};
 
-use crate::forms::{Keyed, key_of};
+use crate::forms::key_of;
+use crate::keys::{key_there, past_key};
 use crate::numbers::{no_end, numbers, only_number};
-use crate::places::{Stand, order_mark, past_key, stands};
+use crate::places::{order_mark, past_all, stray};
 use crate::terms::terms;
 use crate::{Form, Key, LineSlip, Misspelling, Unlike};
-
-fn is_small(b: u8) -> bool {
-    b'a' <= b && b <= b'z'
-}
-
-fn past_word(text: &[u8], from: usize) -> usize
-    requires { from ≤ length text.now }
-{
-    let mut a = from;
-    while a < text.len() {
-        if !is_small(text[a]) {
-            return a;
-        }
-        a += 1;
-    }
-    a
-}
 
 // A word that is none of the line's.
 fn word(text: &[u8], from: usize) -> Misspelling
     requires { from ≤ length text.now }
 {
-    let at = past_word(text, from);
-    match stands(text, at) {
-        Stand::Capital => Misspelling::Unlike(Unlike::Capital),
+    let at = past_all(text, from, |b| b.is_ascii_lowercase());
+    match text.get(at).copied() {
+        Some(b'A'..=b'Z') => Misspelling::Unlike(Unlike::Capital),
         _ => no_end(text, at, Misspelling::Unlike(Unlike::Word)),
     }
 }
@@ -40,69 +24,18 @@ fn word(text: &[u8], from: usize) -> Misspelling
 fn digit(text: &[u8], from: usize) -> Misspelling
     requires { from ≤ length text.now }
 {
-    match stands(text, from) {
-        Stand::Return => Misspelling::Line(LineSlip::Return),
-        Stand::Blank => Misspelling::Line(LineSlip::Blank),
-        Stand::Digit => no_end(text, from + 1, Misspelling::Unlike(Unlike::Digit)),
-        _ => Misspelling::Unlike(Unlike::Digit),
+    let slip = Misspelling::Unlike(Unlike::Digit);
+    match text.get(from).copied() {
+        Some(b'0'..=b'9') => no_end(text, from + 1, slip),
+        _ => stray(text, from).unwrap_or(slip),
     }
 }
 
-// The key that stands there.
-fn key_there(text: &[u8], at: usize) -> Keyed
-    requires { at ≤ length text.now }
-{
-    if at < past_key(text, at, Key::Job) {
-        return Keyed::By(Key::Job);
-    }
-    if at < past_key(text, at, Key::Kind) {
-        return Keyed::By(Key::Kind);
-    }
-    if at < past_key(text, at, Key::Unknowns) {
-        return Keyed::By(Key::Unknowns);
-    }
-    if at < past_key(text, at, Key::Pin) {
-        return Keyed::By(Key::Pin);
-    }
-    if at < past_key(text, at, Key::Lo) {
-        return Keyed::By(Key::Lo);
-    }
-    if at < past_key(text, at, Key::Hi) {
-        return Keyed::By(Key::Hi);
-    }
-    if at < past_key(text, at, Key::Inv) {
-        return Keyed::By(Key::Inv);
-    }
-    if at < past_key(text, at, Key::Steps) {
-        return Keyed::By(Key::Steps);
-    }
-    if at < past_key(text, at, Key::Eq) {
-        return Keyed::By(Key::Eq);
-    }
-    if at < past_key(text, at, Key::Row) {
-        return Keyed::By(Key::Row);
-    }
-    if at < past_key(text, at, Key::Visit) {
-        return Keyed::By(Key::Visit);
-    }
-    if at < past_key(text, at, Key::Verdict) {
-        return Keyed::By(Key::Verdict);
-    }
-    Keyed::None
-}
-
-// In place of the low ends of a job that has no pin line.
-fn not_lo(key: Key) -> Misspelling {
-    match key {
-        Key::Pin => Misspelling::Line(LineSlip::Pin),
-        _ => Misspelling::OtherKey(Key::Lo, key),
-    }
-}
-
+// In place of the low ends of a job that has no pin line a pin has words of its own.
 fn wrong_key(form: Form, own: Key, key: Key) -> Misspelling {
-    match form {
-        Form::PinOrLo(_, _) => Misspelling::NeitherKey(key),
-        Form::Unpinned(_) => not_lo(key),
+    match (form, key) {
+        (Form::PinOrLo(_, _), _) => Misspelling::NeitherKey(key),
+        (Form::Unpinned(_), Key::Pin) => Misspelling::Line(LineSlip::Pin),
         _ => Misspelling::OtherKey(own, key),
     }
 }
@@ -112,8 +45,8 @@ fn other_key(text: &[u8], at: usize, form: Form, own: Key) -> Misspelling
     requires { at ≤ length text.now }
 {
     match key_there(text, at) {
-        Keyed::None => Misspelling::Unlike(Unlike::NoKey),
-        Keyed::By(key) => wrong_key(form, own, key),
+        None => Misspelling::Unlike(Unlike::NoKey),
+        Some(key) => wrong_key(form, own, key),
     }
 }
 
@@ -121,17 +54,13 @@ fn other_key(text: &[u8], at: usize, form: Form, own: Key) -> Misspelling
 fn unkeyed(text: &[u8], at: usize, form: Form, own: Key) -> Misspelling
     requires { at ≤ length text.now }
 {
-    if at == 0 {
-        if order_mark(text) {
-            return Misspelling::OrderMark;
-        }
+    if at == 0 && order_mark(text) {
+        return Misspelling::OrderMark;
     }
-    match stands(text, at) {
-        Stand::Feed => Misspelling::Unlike(Unlike::Hollow),
-        Stand::Return => Misspelling::Line(LineSlip::Return),
-        Stand::Blank => Misspelling::Line(LineSlip::Blank),
-        Stand::Capital => Misspelling::Unlike(Unlike::Capital),
-        _ => other_key(text, at, form, own),
+    match text.get(at).copied() {
+        Some(b'\n') => Misspelling::Unlike(Unlike::Hollow),
+        Some(b'A'..=b'Z') => Misspelling::Unlike(Unlike::Capital),
+        _ => stray(text, at).unwrap_or_else(|| other_key(text, at, form, own)),
     }
 }
 
@@ -140,29 +69,25 @@ fn keyed(text: &[u8], from: usize, form: Form, n: usize) -> Misspelling
     requires { (from ≤ length text.now) × (n ≤ n_max) }
 {
     match form {
-        Form::Number => only_number(text, from),
-        Form::Kind => word(text, from),
+        Form::Number | Form::Pin(_) | Form::Steps | Form::Visit => only_number(text, from),
+        Form::Kind | Form::Verdict => word(text, from),
         Form::Unknowns => digit(text, from),
-        Form::Pin(_) => only_number(text, from),
-        Form::PinOrLo(_, m) => numbers(text, from, m),
-        Form::Unpinned(m) => numbers(text, from, m),
-        Form::Numbers(_, m) => numbers(text, from, m),
-        Form::Sided(m) => numbers(text, from, m),
-        Form::Terms(_) => terms(text, from, n),
-        Form::Steps => only_number(text, from),
-        Form::Visit => only_number(text, from),
-        Form::Verdict => word(text, from),
+        Form::PinOrLo(_, m) | Form::Unpinned(m) | Form::Numbers(_, m) | Form::Sided(m) => {
+            numbers(text, from, m)
+        }
         Form::Low => numbers(text, from, 1),
+        Form::Terms(_) => terms(text, from, n),
         Form::Nothing => Misspelling::Line(LineSlip::Extra),
     }
 }
 
 // No line is left to read where one must stand.
 fn gone(text: &[u8]) -> Misspelling {
-    if text.len() == 0 {
-        return Misspelling::Empty;
+    if text.is_empty() {
+        Misspelling::Empty
+    } else {
+        Misspelling::Unlike(Unlike::Gone)
     }
-    Misspelling::Unlike(Unlike::Gone)
 }
 
 // The line that begins at this place, which must be of this form.
@@ -172,14 +97,11 @@ pub fn line_slip(text: &[u8], at: usize, form: Form, n: usize) -> Misspelling
     if text.len() <= at {
         return gone(text);
     }
-    match key_of(form) {
-        Keyed::None => Misspelling::Line(LineSlip::Extra),
-        Keyed::By(key) => {
-            let from = past_key(text, at, key);
-            if from == at {
-                return unkeyed(text, at, form, key);
-            }
-            keyed(text, from, form, n)
-        }
+    let Some(key) = key_of(form) else {
+        return Misspelling::Line(LineSlip::Extra);
+    };
+    match past_key(text, at, key) {
+        None => unkeyed(text, at, form, key),
+        Some(from) => keyed(text, from, form, n),
     }
 }

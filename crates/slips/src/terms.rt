@@ -1,116 +1,82 @@
 // A line of terms: where the reader of its terms stops, and which of its terms is not as it must be.
-ghost use Rattle.std.specs.Prelude.{◌+◌, ◌≤◌, length};
+ghost use Rattle.std.specs.Prelude.{◌≤◌, length};
 ghost use Rattle.sizes.specs.Sizes.{n_max, terms_max};
 
 use crate::numbers::{after, in_place_of, no_end};
-use crate::places::{Stand, stands};
+use crate::places::past_all;
 use crate::{Field, Misspelling, TermSlip, WrongTerm};
 use digits::is_digit;
 use jobs::{Equation, Term};
-use scan::{is_at, number_at};
+use scan::number_at;
 use sizes::{DEGREE, TERMS};
 use term_checks::terms::{degree_of, stands_before};
 use term_read::terms_from;
-
-// How many digits stand from there on.
-fn digits_from(text: &[u8], from: usize) -> usize
-    requires { from ≤ length text.now }
-    ensures { from + result ≤ length text.now }
-{
-    let mut a = from;
-    while a < text.len() {
-        if !is_digit(text[a]) {
-            return a - from;
-        }
-        a += 1;
-    }
-    a - from
-}
 
 // After the colon of term k: the wrong count of exponents, or neither a comma nor LF behind them.
 fn exponents(text: &[u8], from: usize, n: usize, k: usize) -> Misspelling
     requires { from ≤ length text.now }
 {
-    let found = digits_from(text, from);
-    if found != n {
-        return Misspelling::Term(k, WrongTerm::Exponents(found));
+    let end = past_all(text, from, is_digit);
+    if end - from != n {
+        return Misspelling::Term(k, WrongTerm::Exponents(end - from));
     }
-    no_end(text, from + found, Misspelling::Term(k, WrongTerm::After))
-}
-
-// A field ends at this place, or the text does.
-fn ends(text: &[u8], at: usize) -> bool {
-    match stands(text, at) {
-        Stand::End => true,
-        Stand::Feed => true,
-        Stand::Comma => true,
-        _ => false,
-    }
+    no_end(text, end, Misspelling::Term(k, WrongTerm::After))
 }
 
 // What is wrong with term k, which begins at this place.
 fn wrong_term(text: &[u8], from: usize, n: usize, k: usize) -> Misspelling
     requires { from ≤ length text.now }
 {
-    let r = number_at(text, from);
-    let next = r.next;
-    if next == from {
+    let Some(number) = number_at(text, from) else {
         return in_place_of(text, from, Field::Coefficient(k));
+    };
+    let next = number.next;
+    match text.get(next).copied() {
+        None | Some(b'\n' | b',') => Misspelling::Term(k, WrongTerm::NoExponents),
+        Some(b':') => exponents(text, next + 1, n, k),
+        _ => after(text, next, Field::Coefficient(k), number.value),
     }
-    if ends(text, next) {
-        return Misspelling::Term(k, WrongTerm::NoExponents);
-    }
-    if is_at(text, next, b':') {
-        return exponents(text, next + 1, n, k);
-    }
-    after(text, next, Field::Coefficient(k), r.v)
 }
 
 // Terms joined by commas, of which one is wrong.
 pub fn terms(text: &[u8], from: usize, n: usize) -> Misspelling
     requires { (from ≤ length text.now) × (n ≤ n_max) }
 {
-    let r = terms_from(text, from, n);
-    let q = r.equation;
-    wrong_term(text, r.next, n, q.count + 1)
+    match terms_from(text, from, n) {
+        Ok(right) => wrong_term(text, right.next, n, right.value.equation.count + 1),
+        Err(wrong) => wrong_term(text, wrong.next, n, wrong.value + 1),
+    }
 }
 
-// Term k, counted from 1, and the one after it.
+// Term k, counted from 1, and the one after it, which do not stand in falling order.
 fn pair_slip(before: Term, t: Term, k: usize, n: usize) -> TermSlip
     requires { (n ≤ n_max) × (k ≤ terms_max) }
 {
     if stands_before(t, before, n) {
-        return TermSlip::Order(k, k + 1);
+        TermSlip::Order(k, k + 1)
+    } else {
+        TermSlip::Same(k, k + 1)
     }
-    if stands_before(before, t, n) {
-        return TermSlip::Unplaced;
-    }
-    TermSlip::Same(k, k + 1)
 }
 
 // The first of the terms that is not as it must be, by itself or beside the one before it.
-pub fn term_slip(q: Equation, n: usize) -> TermSlip
+pub fn term_slip(q: Equation, n: usize) -> Option<TermSlip>
     requires { n ≤ n_max }
 {
-    let count = q.count;
-    if TERMS < count {
-        return TermSlip::Many(count);
+    if TERMS < q.count {
+        return Some(TermSlip::Many(q.count));
     }
-    for k in 0..count {
-        let t = q.terms[k];
+    for (k, t) in q.terms[..q.count].iter().enumerate() {
         if t.coef == 0 {
-            return TermSlip::Zero(k + 1);
+            return Some(TermSlip::Zero(k + 1));
         }
-        let degree = degree_of(t, n);
+        let degree = degree_of(*t, n);
         if DEGREE < degree {
-            return TermSlip::Degree(k + 1, degree);
+            return Some(TermSlip::Degree(k + 1, degree));
         }
-        if 0 < k {
-            let before = q.terms[k - 1];
-            if !stands_before(before, t, n) {
-                return pair_slip(before, t, k, n);
-            }
+        if 0 < k && !stands_before(q.terms[k - 1], *t, n) {
+            return Some(pair_slip(q.terms[k - 1], *t, k, n));
         }
     }
-    TermSlip::Unplaced
+    None
 }

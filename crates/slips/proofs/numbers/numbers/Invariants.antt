@@ -3,8 +3,8 @@ use Prim.Native.Nat.{◌-◌, ◌≤◌}
 use lib.ListN.{length}
 use Rattle.slips.proofs.numbers.numbers.Given as goal
 
-abbrev pub invariant-loop-a : goal.invariant-loop-a
-invariant-loop-a l = (l.a ≤ length l.text) × (l.count ≤ l.a)
+abbrev pub invariant-loop-number : goal.invariant-loop-number
+invariant-loop-number l = (l.at ≤ length l.text) × (l.count ≤ l.at)
 
-abbrev pub decreases-loop-a : goal.decreases-loop-a
-decreases-loop-a l = length l.text - l.a
+abbrev pub decreases-loop-number : goal.decreases-loop-number
+decreases-loop-number l = length l.text - l.at
