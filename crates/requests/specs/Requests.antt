@@ -1,7 +1,7 @@
 -- The line of a request, without its LF: what is asked with its arguments, one space, and the length of the text that
 -- follows.
-use Rattle.std.specs.Prelude.{ℕ, zero, suc, ◌-◌, ◌≤◌, ◌≡◌, List, [], ◌∷◌, Bool, true, cond, length, get_or, take, drop, eqb, Some, None}
-use Rattle.std.specs.Prelude.{Option}
+use Rattle.std.specs.Prelude.{ℕ, zero, suc, ◌-◌, List, [], ◌∷◌, Bool, true, cond, length, get_or, take, drop, eqb}
+use Rattle.std.specs.Prelude.{Some, None, Option, is_some}
 use Rattle.text.specs.Keys.{same_bytes}
 use Rattle.arguments.specs.Counts.{count_by}
 use Rattle.arguments.specs.Words.{space, before, behind}
@@ -9,7 +9,6 @@ use Rattle.arguments.specs.Lengths.{are_lengths}
 use Rattle.arguments.specs.Boxes.{boxed_by, told_by}
 use Rattle.arguments.specs.Depths.{deep_by}
 use Rattle.arguments.specs.Visits.{shown_by, read_by}
-use Rattle.arguments.specs.declared.counts.Counted.{Counted}
 use Rattle.requests.specs.declared.Op.{Op}
 use Rattle.requests.specs.declared.Call.{Call}
 use Rattle.requests.specs.declared.Named.{Named}
@@ -64,50 +63,48 @@ abbrev pub close_word : List ℕ
 close_word = 99 ∷ 108 ∷ 111 ∷ 115 ∷ 101 ∷ []
 
 -- the calls on the table of rooms without arguments
-unfoldable pub plain_call : List ℕ → Named
+unfoldable pub plain_call : List ℕ → Option Named
 plain_call w =
-    cond (same_bytes clear_word w) (Named.Calls Call.Clear)
-    (cond (same_bytes open_word w) (Named.Calls Call.Open)
-    Named.Unknown)
+    cond (same_bytes clear_word w) (Some (Named.Calls Call.Clear))
+    (cond (same_bytes open_word w) (Some (Named.Calls Call.Open))
+    None)
 
 -- the operations without arguments
-unfoldable pub plain_of : List ℕ → Named
+unfoldable pub plain_of : List ℕ → Option Named
 plain_of w =
-    cond (same_bytes solve_word w) (Named.Is Op.Solve)
-    (cond (same_bytes job_word w) (Named.Is Op.Job)
-    (cond (same_bytes result_word w) (Named.Is Op.Result)
-    (cond (same_bytes image_word w) (Named.Is Op.Image)
+    cond (same_bytes solve_word w) (Some (Named.Is Op.Solve))
+    (cond (same_bytes job_word w) (Some (Named.Is Op.Job))
+    (cond (same_bytes result_word w) (Some (Named.Is Op.Result))
+    (cond (same_bytes image_word w) (Some (Named.Is Op.Image))
     (plain_call w))))
 
-unfoldable pub named_if : Bool → Named → Named
-named_if good name = cond good name Named.Unknown
+unfoldable pub named_if : Bool → Named → Option Named
+named_if good name = cond good (Some name) None
 
 -- `step SLOT VISIT`, `reading SLOT VISIT ROOM`, `close SLOT VISIT`
-unfoldable pub argued_call : List ℕ → List ℕ → Named
+unfoldable pub argued_call : List ℕ → List ℕ → Option Named
 argued_call first rest =
-    cond (same_bytes step_word first) (named_if (shown_by rest).good (Named.Calls Call.Step))
-    (cond (same_bytes reading_word first) (named_if (read_by rest).good (Named.Calls Call.Reading))
-    (cond (same_bytes close_word first) (named_if (shown_by rest).good (Named.Calls Call.Close))
-    Named.Unknown))
+    cond (same_bytes step_word first) (named_if (is_some (shown_by rest)) (Named.Calls Call.Step))
+    (cond (same_bytes reading_word first) (named_if (is_some (read_by rest)) (Named.Calls Call.Reading))
+    (cond (same_bytes close_word first) (named_if (is_some (shown_by rest)) (Named.Calls Call.Close))
+    None))
 
 -- those with arguments: `parts L1,L2,..`, `image LO HI`, `decide N LO HI KLO KHI`, `halve DEPTH ROOM`, and
 -- calls on the table
-unfoldable pub argued_of : List ℕ → List ℕ → Named
+unfoldable pub argued_of : List ℕ → List ℕ → Option Named
 argued_of first rest =
     cond (same_bytes parts_word first) (named_if (are_lengths rest) (Named.Is Op.Parts))
-    (cond (same_bytes image_word first) (named_if (boxed_by rest).good (Named.Is Op.ImageIn))
-    (cond (same_bytes decide_word first) (named_if (told_by rest).good (Named.Is Op.Decide))
-    (cond (same_bytes halve_word first) (named_if (deep_by rest).good Named.Lists)
+    (cond (same_bytes image_word first) (named_if (is_some (boxed_by rest)) (Named.Is Op.ImageIn))
+    (cond (same_bytes decide_word first) (named_if (is_some (told_by rest)) (Named.Is Op.Decide))
+    (cond (same_bytes halve_word first) (named_if (is_some (deep_by rest)) Named.Lists)
     (argued_call first rest))))
 
-unfoldable pub or_named : Named → Named → Named
-or_named (Named.Is op) next = Named.Is op
-or_named Named.Lists next = Named.Lists
-or_named (Named.Calls call) next = Named.Calls call
-or_named Named.Unknown next = next
+unfoldable pub or_named : Option Named → Option Named → Option Named
+or_named (Some name) next = Some name
+or_named None next = next
 
 -- the table of the operations
-unfoldable pub operation_of : List ℕ → Named
+unfoldable pub operation_of : List ℕ → Option Named
 operation_of w = or_named (plain_of w) (argued_of (before space w) (behind space w))
 
 -- `decide` has no text
@@ -128,28 +125,26 @@ call_takes Call.Step n = eqb n 0
 call_takes Call.Reading n = eqb n 0
 call_takes Call.Close n = eqb n 0
 
+unfoldable pub takes : Named → ℕ → Bool
+takes (Named.Is op) n = takes_text op n
+takes Named.Lists n = true
+takes (Named.Calls call) n = call_takes call n
+
 -- what so many bytes of the line ask, of a text of so many
-unfoldable pub asked : Named → Option ℕ → ℕ → Request
-asked (Named.Is op) (Some n) words = cond (takes_text op n) (Request.Ask op n words) Request.Bad
-asked (Named.Is op) None words = Request.Bad
-asked Named.Lists (Some n) words = Request.List n words
-asked Named.Lists None words = Request.Bad
-asked (Named.Calls call) (Some n) words = cond (call_takes call n) (Request.Call call n words) Request.Bad
-asked (Named.Calls call) None words = Request.Bad
-asked Named.Unknown n words = Request.Bad
+unfoldable pub asked : Option Named → Option ℕ → ℕ → Option Request
+asked (Some name) (Some n) words =
+    cond (takes name n) (Some (record { named = name; length = n; words = words })) None
+asked (Some name) None words = None
+asked None n words = None
 
 -- the place behind the last space among the first i bytes; 0 where there is none
 unfoldable pub after_space : ℕ → List ℕ → ℕ
 after_space zero l = 0
 after_space (suc i) l = cond (eqb (get_or l i 0) space) (suc i) (after_space i l)
 
-pub record AfterSpace (r : ℕ) (l : List ℕ) : Type 0 where
-  pub is : r ≡ after_space (length l) l
-  pub inside : r ≤ length l
-
 -- what is asked stands before the last space, the length behind it
-unfoldable pub split : ℕ → List ℕ → Request
-split at l = cond (eqb at 0) Request.Bad (asked (operation_of (take (at - 1) l)) (count_by (drop at l)) (at - 1))
+unfoldable pub split : ℕ → List ℕ → Option Request
+split at l = cond (eqb at 0) None (asked (operation_of (take (at - 1) l)) (count_by (drop at l)) (at - 1))
 
-unfoldable pub request_of : List ℕ → Request
+unfoldable pub request_of : List ℕ → Option Request
 request_of l = split (after_space (length l) l) l

@@ -1,28 +1,27 @@
 // Of the bytes at hand, the first of which is a request's first: its line, and the part of its text that is kept.
 ghost use Rattle.std.specs.Prelude.{◌≡◌, ◌≤◌, length};
-ghost use Rattle.requests.specs.Packets.{header_max, kept_of, passed_of, without, text_of, text_at, words_of, look_of};
-ghost use Rattle.requests.specs.Packets.{Inside};
+ghost use Rattle.requests.specs.Packets.{header_max, kept_of, passed_of, text_of, look_of, Inside};
 
-use crate::{Call, Op, Request, request_of};
+use crate::{Named, Request, request_of};
 use sizes::TEXT;
+use text::piece_end;
 
 // The most bytes of a request's line, its LF included.
 pub const HEADER: usize = 4096;
 
+// Of a request more is to come, or its line is none, or it is at hand.
 #[derive(Clone, Copy)]
 pub enum Seen {
     More,
     Bad,
-    Ask(Op),
-    List,
-    Call(Call),
+    Whole(Packet),
 }
 
 // The first `words` bytes at hand say what is asked, what is kept of the text stands from..to; behind it `passed` bytes
 // are to be passed over.
 #[derive(Clone, Copy)]
 pub struct Packet {
-    pub seen: Seen,
+    pub named: Named,
     pub words: usize,
     pub from: usize,
     pub to: usize,
@@ -46,59 +45,40 @@ pub fn passed(length: u64) -> u64
     length - kept(length) as u64
 }
 
-fn nothing(seen: Seen) -> Packet
-    ensures { result ≡ without seen }
-{
-    Packet {
-        seen,
-        words: 0,
-        from: 0,
-        to: 0,
-        passed: 0,
-    }
-}
-
-// A text of so many bytes begins at `from`, and n bytes are at hand.
-fn text_of(seen: Seen, length: u64, words: usize, from: usize, n: usize) -> Packet
+// The text begins at `from`, and n bytes are at hand.
+#[tactic(auto, unfolding(crate::specs::Packets::text_of))]
+fn text_of(request: Request, from: usize, n: usize) -> Seen
     requires from_le_header_max { (from ≤ header_max) × (from ≤ n) }
-    requires words_le_from { words ≤ from }
-    ensures { Inside result (text_of seen length words from n) n }
+    requires words_le_from { request.words ≤ from }
+    ensures { Inside result (text_of request from n) n }
 {
+    let length = request.length;
     let to = from + kept(length);
     if n < to {
-        return nothing(Seen::More);
+        return Seen::More;
     }
-    Packet {
-        seen,
-        words,
+    Seen::Whole(Packet {
+        named: request.named,
+        words: request.words,
         from,
         to,
         passed: passed(length),
-    }
+    })
 }
 
-fn text_at(request: Request, from: usize, n: usize) -> Packet
-    requires from_le_header_max { (from ≤ header_max) × (from ≤ n) }
-    requires request_bound { words_of request ≤ from }
-    ensures { Inside result (text_at request from n) n }
-{
-    match request {
-        Request::Bad => nothing(Seen::Bad),
-        Request::Ask(op, length, words) => text_of(Seen::Ask(op), length, words, from, n),
-        Request::List(length, words) => text_of(Seen::List, length, words, from, n),
-        Request::Call(call, length, words) => text_of(Seen::Call(call), length, words, from, n),
-    }
-}
-
-pub fn look(have: &[u8]) -> Packet
+#[tactic(auto, unfolding(crate::specs::Packets::look_of, crate::specs::Packets::look_at, crate::specs::Packets::text_at))]
+pub fn look(have: &[u8]) -> Seen
     ensures { Inside result (look_of have.now) (length have.now) }
 {
-    let end = text::piece_end(have, 0, b'\n');
+    let end = piece_end(have, 0, b'\n');
     if HEADER <= end {
-        return nothing(Seen::Bad);
+        return Seen::Bad;
     }
     if have.len() <= end {
-        return nothing(Seen::More);
+        return Seen::More;
     }
-    text_at(request_of(&have[..end]), end + 1, have.len())
+    match request_of(&have[..end]) {
+        Some(request) => text_of(request, end + 1, have.len()),
+        None => Seen::Bad,
+    }
 }

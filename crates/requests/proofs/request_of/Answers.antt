@@ -1,22 +1,54 @@
 -- `requests::request_of` meets its contract.
-use borrow.Author.Tests.{eq-eqb, ne_eqb}
-use native.Mathlib.Omega.{arith}
-use mathlib.Core.Path.{sym}
-use lib.Seq.{length-take-le}
-use Rattle.digits.proofs.Lists.{to_end}
-use Rattle.requests.specs.Requests.{split, request_of}
+use mathlib.Core.Path.{sym, ◌∙◌}
+use Prim.Native.Nat.{◌+◌}
+use Rattle.std.proofs.lemmas.List.{take_rest}
+use Rattle.requests.specs.Requests.{asked}
+use Rattle.requests.proofs.Words.{no-request, request-at}
 use Rattle.requests.proofs.request_of.Goals as goal
 
-pub returns-then-at-eq0 : goal.returns-then-at-eq0
-unfolding request_of split
-returns-then-at-eq0 c = rw (← c.after_space-at.ensures.is, eq-eqb _ _ c.if-at-eq0.true)
+pub returns-in_err-words : goal.returns-in_err-words
+returns-in_err-words c = c.from_residual.ensures ∙ no-request c.args.line.now c.in_err-words.ensures
 
-pub slice_bounds-operation-end : goal.slice_bounds-operation-end
-slice_bounds-operation-end c = sym (length-take-le _ _ (omega (arith, c.after_space-at.ensures.inside)))
+pub returns-in_err-named : goal.returns-in_err-named
+unfolding asked
+returns-in_err-named c =
+    let l = c.args.line.now in
+    let (h, here, none) = c.in_ok-words.ensures in
+    rw (request-at l c.in_ok-words.words h here none, ← c.in_err-named.ensures) c.from_residual-in_err-named.ensures
+
+pub returns-in_err-length : goal.returns-in_err-length
+unfolding asked
+returns-in_err-length c =
+    let l = c.args.line.now in
+    let i = c.in_ok-words.words in
+    let (h, here, none) = c.in_ok-words.ensures in
+    rw (request-at l i h here none, ← c.in_ok-named.ensures, ← take_rest l (i + 1), ← c.in_err-length.ensures)
+    c.from_residual-in_err-length.ensures
+
+pub returns-then-not-takes : goal.returns-then-not-takes
+unfolding asked
+returns-then-not-takes c =
+    let l = c.args.line.now in
+    let i = c.in_ok-words.words in
+    let (h, here, none) = c.in_ok-words.ensures in
+    rw (
+      request-at l i h here none,
+      ← c.in_ok-named.ensures,
+      ← take_rest l (i + 1),
+      ← c.in_ok-length.ensures,
+      sym c.takes.ensures ∙ c.if-not-takes.true,
+    )
 
 pub returns : goal.returns
-unfolding request_of split
+unfolding asked
 returns c =
-    let space = c.after_space-at in
-    rw (← space.ensures.is, ne_eqb _ _ c.if-at-eq0.false, ← to_end space.result c.args.line.now)
-    (rw (← c.operation.ensures, ← c.count_of.ensures) c.made.ensures)
+    let l = c.args.line.now in
+    let i = c.in_ok-words.words in
+    let (h, here, none) = c.in_ok-words.ensures in
+    rw (
+      request-at l i h here none,
+      ← c.in_ok-named.ensures,
+      ← take_rest l (i + 1),
+      ← c.in_ok-length.ensures,
+      sym c.takes.ensures ∙ c.if-not-takes.false,
+    )
