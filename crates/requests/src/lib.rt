@@ -50,6 +50,7 @@ pub struct Request {
     pub words: usize,
 }
 
+// (A `match` on the words makes a goal of each byte: tried, and the proof did not close.)
 #[tactic(auto, unfolding(crate::specs::Requests::plain_call))]
 fn plain_call(words: &[u8]) -> Option<Named>
     ensures { result ≡ plain_call words.now }

@@ -32,10 +32,7 @@ pub struct Packet {
 pub fn kept(length: u64) -> usize
     ensures { result ≡ kept_of length }
 {
-    if length <= TEXT as u64 {
-        return length as usize;
-    }
-    TEXT + 1
+    length.min(TEXT as u64 + 1) as usize
 }
 
 // How many are passed over.
