@@ -34,7 +34,7 @@ use Rattle.term_write.proofs.Joined.{tab-next, tab-empty}
 use Rattle.term_write.proofs.Terms.{exponents-long}
 use Rattle.jobs.specs.declared.Term.{Term}
 use Rattle.jobs.specs.declared.Equation.{Equation}
-use Rattle.term_text.specs.declared.Terms.{Terms}
+use Rattle.term_text.specs.Terms.{Terms}
 use Rattle.term_round.specs.Live.{live_term, live_equation}
 use Rattle.term_round.specs.Spelled.{SpelledTerm, SpelledEquation}
 

@@ -15,7 +15,7 @@ use Rattle.term_text.specs.Terms.{put_term, no_terms}
 use Rattle.term_write.specs.ShowTerms.{show_term, term_texts}
 use Rattle.jobs.specs.declared.Term.{Term}
 use Rattle.jobs.specs.declared.Equation.{Equation}
-use Rattle.term_text.specs.declared.Terms.{Terms}
+use Rattle.term_text.specs.Terms.{Terms}
 use Rattle.term_round.specs.Live.{live_term, live_equation}
 
 abbrev stored : ℕ → List Term → Equation

@@ -29,7 +29,7 @@ use Rattle.term_text.specs.Terms.{add_parts, add_term, last_term, read_terms, re
 use Rattle.term_write.specs.ShowTerms.{show_exponents, show_term, equation_text}
 use Rattle.jobs.specs.declared.Term.{Term}
 use Rattle.jobs.specs.declared.Equation.{Equation}
-use Rattle.term_text.specs.declared.Terms.{Terms}
+use Rattle.term_text.specs.Terms.{Terms}
 use Rattle.term_round.specs.Live.{live_term, live_equation}
 use Rattle.term_round.proofs.Stored.{fold-count, stored-texts, stored-live}
 use Rattle.std.specs.Prelude.{Some, None, Option}
