@@ -1,6 +1,7 @@
 -- Parts of a sentence, one after the other.
 use Prim.Native.Nat.{ℕ, ◌+◌, ◌≤◌}
 use native.Mathlib.Omega.{arith}
+use mathlib.Core.Path.{◌≡◌}
 use mathlib.Core.List.{List, [], ◌++◌}
 use lib.ListN.{length}
 use lib.IntN.{ℤ}
@@ -36,3 +37,8 @@ says-count m w = says-most count_digits (show-short count_digits m) (says-words 
 pub says-number : (v : ℤ) {x y : List ℕ} {at r : ℕ} → Wrote x y at r (show_number v)
     → Says value_most x y at r (show_number v)
 says-number v w = says-most value_most (number_short digits_max v) (says-words w)
+
+-- the same words, and a looser bound
+pub says_as : {m most : ℕ} {x y : List ℕ} {at r : ℕ} {bs words : List ℕ} → Says m x y at r bs → bs ≡ words → m ≤ most
+    → Says most x y at r words
+says_as {m} {most} p e h = rw e at (says-most most h p)

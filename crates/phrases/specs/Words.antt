@@ -2,9 +2,8 @@
 use Rattle.std.specs.Prelude.{ℕ, List, [], ◌++◌, cond, eqb, ℤ, pos}
 use Rattle.digits.specs.Show.{show_magnitude, show_number}
 use Rattle.sizes.specs.Sizes.{number_max}
-use Rattle.text.specs.Words.{job_key, kind_key, n_key, pin_key, lo_key, hi_key, inv_key, steps_key, eq_key, row_key}
-use Rattle.text.specs.Words.{visit_key, verdict_key}
 use Rattle.term_checks.specs.Ranges.{is_within}
+use Rattle.slips.specs.Keys.{key_words}
 use Rattle.slips.specs.declared.Key.{Key}
 use Rattle.slips.specs.declared.Form.{Form}
 use Rattle.slips.specs.declared.Field.{Field}
@@ -22,20 +21,6 @@ count_words m = show_magnitude count_digits m
 unfoldable pub value_words : ℤ → List ℕ
 value_words v = cond (is_within v (pos number_max)) (show_number v) []
 
-abbrev pub key_words : Key → List ℕ
-key_words Key.Job = job_key
-key_words Key.Kind = kind_key
-key_words Key.Unknowns = n_key
-key_words Key.Pin = pin_key
-key_words Key.Lo = lo_key
-key_words Key.Hi = hi_key
-key_words Key.Inv = inv_key
-key_words Key.Steps = steps_key
-key_words Key.Eq = eq_key
-key_words Key.Row = row_key
-key_words Key.Visit = visit_key
-key_words Key.Verdict = verdict_key
-
 -- words, a count, words
 abbrev pub counted : List ℕ → ℕ → List ℕ → List ℕ
 counted before m after = before ++ count_words m ++ after
@@ -50,13 +35,16 @@ several_words key m = key_words key ++ counted (ascii " and ") m (ascii " number
 abbrev pub numbers_words : Key → ℕ → List ℕ
 numbers_words key m = cond (eqb m 1) (key_words key ++ ascii " and one number") (several_words key m)
 
+-- up to so many: words for 1 alone, or words before the number
+abbrev pub most_words : ℕ → List ℕ → List ℕ → List ℕ
+most_words most only words = cond (eqb most 1) only (counted words most [])
+
 -- of two coordinates only the first can be written
 abbrev pub pin_words : ℕ → List ℕ
-pin_words most = cond (eqb most 1) (ascii "pin=1") (counted (ascii "pin= and a number from 1 to ") most [])
+pin_words most = most_words most (ascii "pin=1") (ascii "pin= and a number from 1 to ")
 
 abbrev pub pin_range_words : ℕ → List ℕ
-pin_range_words most =
-    cond (eqb most 1) (ascii ": only 1 can stand here") (counted (ascii ": it lies from 1 to ") most [])
+pin_range_words most = most_words most (ascii ": only 1 can stand here") (ascii ": it lies from 1 to ")
 
 -- what a line must be
 abbrev pub form_words : Form → List ℕ

@@ -21,8 +21,8 @@ returns-then-within c =
     rw (rw e at (sym c.within.ensures ∙ c.if-within.true))
     (says-number _ (rw e at c.put_number.ensures))
 
-pub returns : goal.returns
+pub returns-else-within : goal.returns-else-within
 unfolding value_words
-returns c =
+returns-else-within c =
     let e = to_z-of_z c.ranges.v in
     rw (rw e at (sym c.within.ensures ∙ c.if-within.false)) (says_none _ _ _)

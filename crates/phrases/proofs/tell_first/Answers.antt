@@ -1,7 +1,7 @@
 -- `phrases::tell_first` meets its contract.
-use Rattle.phrases.proofs.Says.{says_then, says-words}
+use Rattle.phrases.proofs.Says.{says_then}
 use Rattle.phrases.proofs.tell_first.Goals as goal
 
 pub returns : goal.returns
 returns c =
-    says_then c.put_count-a.ensures (says-words c.put_bytes.ensures)
+    says_then c.put_count-a.ensures c.say.ensures
