@@ -9,4 +9,3 @@ pub mod Hold
 pub mod Inclusion
 pub mod Places
 pub mod Around
-pub mod Turns

@@ -3,3 +3,4 @@ pub mod Carry
 pub mod All
 pub mod Goals
 pub mod Sets
+pub mod Fills

@@ -4,7 +4,7 @@ use Prim.Native.Nat.{ℕ, ◌+◌, ◌≤◌}
 use Rattle.intervals.specs.declared.Interval.{Interval}
 use Rattle.intervals.specs.Interval.{zero_i, add_i, wide_i}
 use Rattle.intervals.proofs.Sums.{sum_i-none, sum_i-more, sum_i-done}
-use Rattle.intervals.proofs.Turns.{fills}
+use Rattle.lists.proofs.Fills.{fills}
 use Rattle.matrices.specs.Products.{dot_i}
 
 module _ (a b : ℕ → Interval) where
