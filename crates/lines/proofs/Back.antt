@@ -24,8 +24,8 @@ use Rattle.reading.specs.Results.{after, passing}
 use Rattle.reading.specs.NumberLines.{placed, row_line, count_line}
 use Rattle.reading.proofs.NumberLines.{first-all, list-line-none, list-line-back, row-line-back, count-line-back}
 use Rattle.digits.specs.Number.{digits_max}
-use Rattle.lines.specs.Found.{found}
-use Rattle.lines.specs.Lines.{low_of, any_low_of, high_of, inverse_of, row_of, Sided, live_sided, sided_by, sided_of}
+use Rattle.lines.specs.Lines.{low_of, any_low_of, high_of, inverse_of, row_of, live_sided, sided_by, sided_of}
+use Rattle.lines.specs.declared.Sided.{Sided}
 use Rattle.lines.specs.Lines.{number_of, visit_of, steps_of}
 use Rattle.lines.specs.Places.{cells, live_rows}
 use Rattle.lines.specs.Texts.{row_text, matrix_list, inverse_text, sided_text, count_text}
@@ -37,24 +37,24 @@ use Rattle.std.specs.Prelude.{Ok}
 
 -- against its limit
 pub count-back : (f : Fault) (key : List ℕ) (most m : ℕ) → m < 10 ^ digits_max
-    → count_line Fault.Spelling f key most (count_text key m) ≡ after (found (bad_unless (leb m most) f)) (λ u. m)
+    → count_line Fault.Spelling f key most (count_text key m) ≡ after (bad_unless (leb m most) f) (λ u. m)
 unfolding bad_unless after
 count-back f key most m s =
     rw (count-line-back Fault.Spelling f key most m s)
     (either most m (λ p. rw (lt-ltb most m p, lt-leb m most p)) (λ p. rw (le-ltb most m p, le-leb m most p)))
 
 pub number-back : (m : ℕ) → m < 10 ^ digits_max
-    → number_of (count_text job_key m) ≡ after (found (number_check m)) (λ u. m)
+    → number_of (count_text job_key m) ≡ after (number_check m) (λ u. m)
 unfolding number_of number_check
 number-back = count-back Fault.Beyond job_key number_max
 
 pub visit-back : (m : ℕ) → m < 10 ^ digits_max
-    → visit_of (count_text visit_key m) ≡ after (found (visit_check m)) (λ u. m)
+    → visit_of (count_text visit_key m) ≡ after (visit_check m) (λ u. m)
 unfolding visit_of visit_check
 visit-back = count-back Fault.Beyond visit_key visit_max
 
 pub steps_back : (m : ℕ) → m < 10 ^ digits_max
-    → steps_of (count_text steps_key m) ≡ after (found (steps_check m)) (λ u. m)
+    → steps_of (count_text steps_key m) ≡ after (steps_check m) (λ u. m)
 unfolding steps_of steps_check
 steps_back = count-back Fault.Steps steps_key steps_max
 
@@ -62,7 +62,7 @@ steps_back = count-back Fault.Steps steps_key steps_max
 
 pub any-low-back : (n : ℕ) (lo : List ℤ) → Small (placed n n lo)
     → any_low_of (row_text lo_key n lo)
-    ≡ after (found (counted_check n lo)) (λ u. record { count = n; row = placed n_max n lo })
+    ≡ after (counted_check n lo) (λ u. record { count = n; row = placed n_max n lo })
 unfolding any_low_of passing after counted_check first_of
 any-low-back n lo small =
     either 0 n
@@ -82,20 +82,20 @@ full_back key n xs some few e small =
 
 module _ (n : ℕ) (some : 0 < n) (few : n ≤ n_max) where
   pub low-back : (lo : List ℤ) → Small (placed n n lo)
-      → low_of n (row_text lo_key n lo) ≡ after (found (low_check n lo)) (λ u. placed n_max n lo)
+      → low_of n (row_text lo_key n lo) ≡ after (low_check n lo) (λ u. placed n_max n lo)
   unfolding low_of passing
   low-back lo small =
       rw (row-line-back Fault.Spelling lo_key n_max n lo some small few (omega arith), low-live n_max n few lo)
 
   pub high-back : (lo hi : List ℤ) → Small (placed n n hi)
-      → high_of n (placed n_max n lo) (row_text hi_key n hi) ≡ after (found (high_check n lo hi))
+      → high_of n (placed n_max n lo) (row_text hi_key n hi) ≡ after (high_check n lo hi)
       (λ u. placed n_max n hi)
   unfolding high_of passing
   high-back lo hi small =
       rw (row-line-back Fault.Spelling hi_key n_max n hi some small few (omega arith), high-live n_max n few lo hi)
 
   pub inverse-back : (rows : List Row) → Small (matrix_list rows n)
-      → inverse_of n (inverse_text n rows) ≡ after (found (inverse_check n rows)) (λ u. live_rows n n rows)
+      → inverse_of n (inverse_text n rows) ≡ after (inverse_check n rows) (λ u. live_rows n n rows)
   unfolding inverse_of passing after
   inverse-back rows small =
       rw (
@@ -106,7 +106,7 @@ module _ (n : ℕ) (some : 0 < n) (few : n ≤ n_max) where
       )
 
   pub row_back : (row : List ℤ) → Small (placed n n row)
-      → row_of n (row_text row_key n row) ≡ after (found (row_check n row)) (λ u. placed n_max n row)
+      → row_of n (row_text row_key n row) ≡ after (row_check n row) (λ u. placed n_max n row)
   unfolding row_of passing
   row_back row small =
       rw (row-line-back Fault.Spelling row_key n_max n row some small few (omega arith), row-live n_max n few row)
@@ -143,10 +143,10 @@ module _ (n : ℕ) (some : 0 < n) (few : n ≤ n_max) where
 
     pub sided-back : Small (placed n n row ++ (right ∷ []))
         → sided_of n (sided_text n row right)
-        ≡ after (found (sided_check n row right)) (λ u. live_sided n (record { row = row; side = right }))
+        ≡ after (sided_check n row right) (λ u. live_sided n (record { row = row; side = right }))
     unfolding sided_of passing after both
     sided-back small =
         let x = live_sided n (record { row = row; side = right }) in
         rw (full_back row_key (n + 1) both (omega arith) (omega arith) both_first small)
-        (ap (λ (y : Sided). after (found (sided_check n y.row y.side)) (λ u. y)) sided-parts
-        ∙ ap (λ (f : Finding). after (found f) (λ u. x)) (sided-live n_max n few row right))
+        (ap (λ (y : Sided). after (sided_check n y.row y.side) (λ u. y)) sided-parts
+        ∙ ap (λ (f : Finding). after f (λ u. x)) (sided-live n_max n few row right))

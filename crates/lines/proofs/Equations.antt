@@ -28,14 +28,12 @@ use Rattle.term_round.proofs.WriteBack.{equation-was}
 use Rattle.term_round.proofs.LiveTerms.{terms-live, coefs-live}
 use Rattle.reading.specs.Results.{after, passing, refuse, Told}
 use Rattle.reading.proofs.Told.{not-false, told-got, told-map, told-unless, told-passing}
-use Rattle.lines.specs.Found.{found}
 use Rattle.lines.specs.Lines.{terms_by, equation_of}
-use Rattle.lines.proofs.Found.{found-fine}
 use Rattle.lines.proofs.Was.{LineWas}
 use Rattle.std.specs.Prelude.{Ok, Err}
 
 module _ (n : ℕ) where
-  equation-far : (q : Equation) → good_coefs q ≡ false → found (equation_check n q) ≡ Err Fault.Beyond
+  equation-far : (q : Equation) → good_coefs q ≡ false → equation_check n q ≡ Err Fault.Beyond
   unfolding equation_check bad_unless first_of
   equation-far q e = rw e
 
@@ -50,13 +48,13 @@ module _ (n : ℕ) (few : n ≤ n_max) where
   equation-live q short = rw (coefs-live n few q short, terms-live n few q short)
 
   pub equation-back : (q : Equation) → SpelledEquation n q
-      → equation_of n (equation_text n q) ≡ after (found (equation_check n q)) (λ u. live_equation n q)
+      → equation_of n (equation_text n q) ≡ after (equation_check n q) (λ u. live_equation n q)
   unfolding equation_of terms_by passing after
   equation-back q s = rw (equation-read n q s, equation-live q s.few) (go (good_coefs q) refl)
     where
       go : (b : Bool) → good_coefs q ≡ b
-          → refuse (not b) Fault.Beyond (after (found (equation_check n q)) (λ u. live_equation n q))
-          ≡ after (found (equation_check n q)) (λ u. live_equation n q)
+          → refuse (not b) Fault.Beyond (after (equation_check n q) (λ u. live_equation n q))
+          ≡ after (equation_check n q) (λ u. live_equation n q)
       go true e = refl
       go false e = rw (equation-far n q e)
 
@@ -68,7 +66,7 @@ module _ (n : ℕ) (few : n ≤ n_max) where
       told-unless (not a.ok) Fault.Spelling _ (λ spelled.
       told-unless a.far Fault.Beyond _ (λ near.
       told-map _ (told-passing {P = λ q. a.equation ≡ q} _ _ (told-got a.equation refl)) (λ q e.
-      let was = equation-was n l few (not-false _ spelled) (rw e.0 (equation-few n q (found-fine _ e.1))) in
+      let was = equation-was n l few (not-false _ spelled) (rw e.0 (equation-few n q e.1)) in
       record {
         shown = rw e.0 at was.text;
         fine = e.1;

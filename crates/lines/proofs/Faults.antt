@@ -22,7 +22,6 @@ use Rattle.jobs.specs.declared.Verdict.{Verdict}
 use Rattle.reading.specs.Results.{Blamed}
 use Rattle.reading.proofs.Blamed.{blamed-got, blamed-fault, blamed-either, blamed-unless, blamed-after, blamed-passing}
 use Rattle.reading.proofs.Blamed.{count-blamed, list-blamed, row-blamed}
-use Rattle.lines.specs.Found.{found}
 use Rattle.lines.specs.Lines.{number_of, visit_of, steps_of, digit_is, unknowns_of, kind_of, verdict_of}
 use Rattle.lines.specs.Lines.{low_of, any_low_of, high_of}
 use Rattle.lines.specs.Lines.{written_pin, pin_of, inverse_of, row_of, sided_of, terms_by, equation_of, word_or}
@@ -60,7 +59,7 @@ steps = record { not-long = λ e. omega arith; not_short = λ e. omega arith; of
 
 -- a check that finds such faults
 abbrev Finds : Finding → Type 0
-Finds f = Blamed OfLine (found f)
+Finds f = Blamed OfLine f
 
 finds-unless : (b : Bool) {f : Fault} → OfLine f → Finds (bad_unless b f)
 unfolding bad_unless
@@ -98,7 +97,7 @@ module _ (l : List ℕ) where
   pub unknowns-of-line : Blamed OfLine (unknowns_of l)
   unfolding unknowns_of digit_is unknowns_check
   unknowns-of-line =
-      blamed-passing (digit_is (body_of n_key l)) (λ n. found (unknowns_check n))
+      blamed-passing (digit_is (body_of n_key l)) (λ n. unknowns_check n)
       (blamed-unless (not (one_digit (body_of n_key l))) Fault.Spelling (Ok _) spelling (blamed-got _))
       (λ n. finds-unless _ unknowns)
 

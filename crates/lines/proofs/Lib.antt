@@ -1,5 +1,5 @@
 pub mod Squares
-pub mod Found
+pub mod Answered
 pub mod Words
 pub mod Was
 pub mod Checks

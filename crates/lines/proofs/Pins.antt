@@ -22,10 +22,8 @@ use Rattle.reading.specs.Results.{after, passing, Told}
 use Rattle.reading.proofs.Told.{told-map, told-passing}
 use Rattle.reading.proofs.NumberLines.{count-told}
 use Rattle.reading.proofs.Goes.{and-false}
-use Rattle.lines.specs.Found.{found}
 use Rattle.lines.specs.Lines.{written_pin, pin_of}
 use Rattle.lines.specs.Texts.{count_text}
-use Rattle.lines.proofs.Found.{found-fine}
 use Rattle.lines.proofs.Was.{LineWas}
 use Rattle.lines.proofs.Back.{count-back}
 use Rattle.std.specs.Prelude.{Ok, Err}
@@ -50,13 +48,13 @@ unfolding pin_check one_to bad_unless
 far-found n pin p = rw (lt-leb pin n p, le-leb 1 pin (omega arith))
 
 pub pin-back : (n pin : ℕ) → pin < 10 ^ digits_max → eqb pin n ≡ false
-    → pin_of n (count_text pin_key pin) ≡ after (found (pin_check Kind.Eigen n pin)) (λ u. pin)
+    → pin_of n (count_text pin_key pin) ≡ after (pin_check Kind.Eigen n pin) (λ u. pin)
 unfolding pin_of passing after bad_unless
 pin-back n pin s e =
     rw (count-back Fault.Pin pin_key n pin s)
     (either n pin
     (λ p. rw (lt-leb pin n p, far-found n pin p))
-    (λ p. rw (le-leb pin n p) (ap (λ (f : Finding). after (found f) (λ u. pin)) (written_is n pin e))))
+    (λ p. rw (le-leb pin n p) (ap (λ (f : Finding). after f (λ u. pin)) (written_is n pin e))))
 
 written-other : (n pin : ℕ) → written_pin n pin ≡ Ok tt → eqb pin n ≡ false
 unfolding written_pin
@@ -70,10 +68,10 @@ pub pin-told : (n : ℕ) (l : List ℕ) → Told (PinWas n l) (pin_of n l)
 unfolding pin_of
 pin-told n l =
     told-map _ (told-passing _ _ (count-told Fault.Spelling Fault.Pin pin_key n l)) (λ pin e.
-    let w = found-fine _ e.1 in
+    let w = e.1 in
     let ne = written-other n pin w in
     record {
-      was = record { shown = e.0.0; fine = ap found (sym (written_is n pin ne) ∙ w); whole = refl };
+      was = record { shown = e.0.0; fine = sym (written_is n pin ne) ∙ w; whole = refl };
       other = ne;
     })
 

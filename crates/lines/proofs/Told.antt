@@ -19,8 +19,8 @@ use Rattle.reading.specs.Results.{Told, passing}
 use Rattle.reading.specs.NumberLines.{placed}
 use Rattle.reading.proofs.Told.{told-map, told-after, told-passing}
 use Rattle.reading.proofs.NumberLines.{row-line-told}
-use Rattle.lines.specs.Found.{found}
-use Rattle.lines.specs.Lines.{numbers_of, low_of, high_of, inverse_of, row_of, Sided, live_sided, sided_of}
+use Rattle.lines.specs.Lines.{numbers_of, low_of, high_of, inverse_of, row_of, live_sided, sided_of}
+use Rattle.lines.specs.declared.Sided.{Sided}
 use Rattle.lines.specs.Places.{cells, live_rows}
 use Rattle.lines.specs.Texts.{row_text, inverse_text, sided_text}
 use Rattle.lines.proofs.Was.{LineWas}
@@ -29,7 +29,7 @@ use Rattle.lines.proofs.Rows.{square-fits, matrix-was, rows-live}
 module _ (n : ℕ) (some : 0 < n) (few : n ≤ n_max) (l : List ℕ) where
   cells_told : (key : List ℕ) (check : List ℤ → Finding)
       → Told (LineWas (row_text key n) check (placed n_max n) l)
-      (passing (numbers_of key n_max n l) (λ xs. found (check xs)))
+      (passing (numbers_of key n_max n l) (λ xs. check xs))
   cells_told key check =
       told-map _ (told-passing _ _ (row-line-told Fault.Spelling key l n_max (omega arith) n)) (λ xs e. record {
         shown = e.0.shown few;

@@ -7,21 +7,22 @@ use mathlib.Core.Logic.{◌↔◌}
 use Prim.Native.Nat.{ℕ}
 use lib.ListN.{length}
 use Rattle.faults.specs.declared.Fault.{Fault}
-use Rattle.faults.specs.Checked.{Status}
+use Rattle.faults.specs.Checked.{Status, status_of}
 use Rattle.reading.specs.Lines.{Form, Answer, read, bytes}
 use Rattle.reading.specs.Shows.{Shows, shown, live, Passed, judged}
 use Rattle.reading.proofs.Trips.{Laws}
 use Rattle.reading.proofs.Trips as trips
 use Rattle.reading.proofs.Walk as walk
-use Rattle.lines.specs.Found.{status_of}
-use Rattle.lines.proofs.Found.{status-done}
+use Rattle.lines.specs.Answered.{answered}
+use Rattle.lines.proofs.Answered.{status-done}
 use Rattle.std.specs.Prelude.{Ok}
 
 module _ {L X : Type 0} (g : Form Fault L X) (w : Shows Fault L X) (Has Spelt : X → L → Type 0)
-    (laws : Laws g w Has Spelt) (check : X → Status) (is : (q : X) → status_of (judged g w q) ≡ check q) where
+    (laws : Laws g w Has Spelt) (check : X → Status)
+    (is : (q : X) → status_of (answered (judged g w q)) ≡ check q) where
   pub same-order : (q : X) → ((k : L) → Has q k → Spelt q k) → length (bytes (shown w q)) ≤ g.most
-      → status_of (read g (bytes (shown w q))) ≡ check q
-  same-order q s h = ap status_of (trips.same-order g w Has Spelt laws q s h) ∙ is q
+      → status_of (answered (read g (bytes (shown w q)))) ≡ check q
+  same-order q s h = ap (λ a. status_of (answered a)) (trips.same-order g w Has Spelt laws q s h) ∙ is q
 
   pub done-passed : (q : X) → check q ≡ Ok tt → Passed w (w.prior w.end q) q
   done-passed q e =
@@ -29,7 +30,7 @@ module _ {L X : Type 0} (g : Form Fault L X) (w : Shows Fault L X) (Has Spelt : 
       walk.done-passed g w q (w.prior w.end q) d.0 d.1
 
   passed-done : (q : X) → Passed w (w.prior w.end q) q → check q ≡ Ok tt
-  passed-done q p = sym (is q) ∙ ap status_of (walk.passed-done g w q (w.prior w.end q) p)
+  passed-done q p = sym (is q) ∙ ap (λ a. status_of (answered a)) (walk.passed-done g w q (w.prior w.end q) p)
 
   pub read-write : (q : X) → check q ≡ Ok tt → read g (bytes (shown w q)) ≡ Answer.done (live w q)
   read-write q e = trips.read-write g w Has Spelt laws q (done-passed q e)

@@ -22,7 +22,6 @@ use Rattle.digits.specs.Digits.{is_digit, all_digits}
 use Rattle.term_round.proofs.WriteBack.{digit-is}
 use Rattle.reading.specs.Results.{after, passing, Told}
 use Rattle.reading.proofs.Told.{not-false, told-got, told-unless, told-map, told-passing}
-use Rattle.lines.specs.Found.{found}
 use Rattle.lines.specs.Lines.{digit_is, unknowns_of}
 use Rattle.lines.specs.Texts.{count_text}
 use Rattle.lines.proofs.Was.{LineWas}
@@ -39,7 +38,7 @@ digit-back n h =
     rw (body_own n_key (show_magnitude digits_max n), show-low 8 n h, one-digit n h, e)
 
 pub unknowns-back : (n : ℕ) → n < 10
-    → unknowns_of (count_text n_key n) ≡ after (found (unknowns_check n)) (λ u. n)
+    → unknowns_of (count_text n_key n) ≡ after (unknowns_check n) (λ u. n)
 unfolding unknowns_of passing
 unknowns-back n h = rw (digit-back n h)
 

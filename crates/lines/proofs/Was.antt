@@ -1,7 +1,7 @@
 -- What a line tells of its value: it is the line that is written for the value, its check finds nothing, and there are
 -- zeros in the dead places.
 use Prim.Native.Nat.{ℕ}
-use mathlib.Core.Path.{◌≡◌, refl, ap}
+use mathlib.Core.Path.{◌≡◌, refl}
 use mathlib.Core.List.{List}
 use lib.Dec.{leb}
 use borrow.Author.Tests.{le-leb}
@@ -18,7 +18,6 @@ use Rattle.reading.specs.Results.{Told}
 use Rattle.reading.specs.NumberLines.{count_line}
 use Rattle.reading.proofs.Told.{told-map}
 use Rattle.reading.proofs.NumberLines.{count-told}
-use Rattle.lines.specs.Found.{found}
 use Rattle.lines.specs.Lines.{number_of, visit_of, steps_of, kind_of}
 use Rattle.lines.specs.Texts.{count_text, kind_text}
 use Rattle.lines.proofs.Words.{kind-told}
@@ -27,7 +26,7 @@ use Rattle.std.specs.Prelude.{Ok}
 pub record LineWas {A : Type 0} (text : A → List ℕ) (check : A → Finding) (live : A → A) (l : List ℕ) (x : A)
     : Type 0 where
   pub shown : text x ≡ l
-  pub fine : found (check x) ≡ Ok tt
+  pub fine : check x ≡ Ok tt
   pub whole : live x ≡ x
 
 limit-told : (f : Fault) (key : List ℕ) (most : ℕ) (l : List ℕ)
@@ -36,7 +35,7 @@ limit-told : (f : Fault) (key : List ℕ) (most : ℕ) (l : List ℕ)
 limit-told f key most l =
     told-map _ (count-told Fault.Spelling f key most l) (λ m e. record {
       shown = e.0;
-      fine = ap found (fine-unless f (le-leb m most e.1));
+      fine = fine-unless f (le-leb m most e.1);
       whole = refl;
     })
 

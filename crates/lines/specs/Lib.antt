@@ -1,5 +1,5 @@
 pub mod Words
 pub mod Places
-pub mod Found
+pub mod Answered
 pub mod Lines
 pub mod Texts

@@ -19,12 +19,13 @@ use Rattle.checks.specs.Checks.{unknowns_check, good_pin, low_check, high_check,
 use Rattle.checks.specs.Checks.{equation_check, row_check, sided_check}
 use Rattle.checks.specs.CheckResult.{counted_check}
 use Rattle.term_text.specs.Terms.{one_digit, read_equation}
-use Rattle.term_text.specs.declared.Terms.{Terms}
+use Rattle.term_text.specs.Terms.{Terms}
 use Rattle.reading.specs.Results.{after, passing, refuse}
-use Rattle.reading.specs.NumberLines.{placed, Listed, count_line, list_line, row_line}
+use Rattle.reading.specs.declared.Listed.{Listed}
+use Rattle.reading.specs.NumberLines.{placed, count_line, list_line, row_line}
 use Rattle.lines.specs.Words.{kind_word, verdict_word}
 use Rattle.lines.specs.Places.{cells, rows_of}
-use Rattle.lines.specs.Found.{found}
+use Rattle.lines.specs.declared.Sided.{Sided}
 
 -- "wrongly spelled": 2
 abbrev pub misspelled : {A : Type 0} → Found A
@@ -49,7 +50,7 @@ digit_is b = refuse (not (one_digit b)) Fault.Spelling (Ok (get_or b 0 0 - digit
 
 -- n=: "`n` is one digit"; 3 where it is not 1 to 6, since P10
 unfoldable pub unknowns_of : List ℕ → Found ℕ
-unknowns_of l = passing (digit_is (body_of n_key l)) (λ n. found (unknowns_check n))
+unknowns_of l = passing (digit_is (body_of n_key l)) unknowns_check
 
 -- document 02, P2: "9 for a written pin of n, or any pin not 1 to n"
 unfoldable pub written_pin : ℕ → ℕ → Finding
@@ -57,7 +58,7 @@ written_pin n pin = bad_unless (good_pin n pin && not (eqb pin n)) Fault.Pin
 
 -- pin=: a number; its refusals come "after 2"
 unfoldable pub pin_of : ℕ → List ℕ → Found ℕ
-pin_of n l = passing (count_line Fault.Spelling Fault.Pin pin_key n l) (λ pin. found (written_pin n pin))
+pin_of n l = passing (count_line Fault.Spelling Fault.Pin pin_key n l) (written_pin n)
 
 -- ---- a line that holds a word
 
@@ -89,31 +90,25 @@ numbers_of key places count l = row_line Fault.Spelling key places count l
 
 -- lo= of a job: n numbers
 unfoldable pub low_of : ℕ → List ℕ → Found (List ℤ)
-low_of n l = passing (numbers_of lo_key n_max n l) (λ lo. found (low_check n lo))
+low_of n l = passing (numbers_of lo_key n_max n l) (low_check n)
 
 -- lo= of a result: "the length of the `lo` list is n: an empty list is fault 2", one of over 6 numbers, since P10,
 -- fault 3
 unfoldable pub any_low_of : List ℕ → Found Listed
-any_low_of l = passing (list_line Fault.Spelling lo_key n_max l) (λ x. found (counted_check x.count x.row))
+any_low_of l = passing (list_line Fault.Spelling lo_key n_max l) (λ x. counted_check x.count x.row)
 
 -- hi=: n numbers; "a low end above its high end" 5
 unfoldable pub high_of : ℕ → List ℤ → List ℕ → Found (List ℤ)
-high_of n lo l = passing (numbers_of hi_key n_max n l) (λ hi. found (high_check n lo hi))
+high_of n lo l = passing (numbers_of hi_key n_max n l) (high_check n lo)
 
 -- inv=: "`inv` holds n times n numbers, row by row"
 unfoldable pub inverse_of : ℕ → List ℕ → Found (List Row)
 inverse_of n l =
-    passing (after (numbers_of inv_key places_max (n * n) l) (λ vals. rows_of vals n))
-    (λ rows. found (inverse_check n rows))
+    passing (after (numbers_of inv_key places_max (n * n) l) (λ vals. rows_of vals n)) (inverse_check n)
 
 -- row= of an eigenpair: n numbers
 unfoldable pub row_of : ℕ → List ℕ → Found (List ℤ)
-row_of n l = passing (numbers_of row_key n_max n l) (λ row. found (row_check n row))
-
--- a row with its right side
-pub record Sided : Type 0 where
-  pub row : List ℤ
-  pub side : ℤ
+row_of n l = passing (numbers_of row_key n_max n l) (row_check n)
 
 -- the first n numbers of the row, and zeros past them
 abbrev pub live_sided : ℕ → Sided → Sided
@@ -126,14 +121,14 @@ sided_by vals n = record { row = cells vals 0 n; side = get_or vals n (pos 0) }
 unfoldable pub sided_of : ℕ → List ℕ → Found Sided
 sided_of n l =
     passing (after (numbers_of row_key places_max (n + 1) l) (λ vals. sided_by vals n))
-    (λ x. found (sided_check n x.row x.side))
+    (λ x. sided_check n x.row x.side)
 
 -- ---- eq= of a polynomial job: 2, then 4 for each term (also one that has no place), then 6
 
 unfoldable pub terms_by : ℕ → Terms → Found Equation
 terms_by n a =
     refuse (not a.ok) Fault.Spelling
-    (refuse a.far Fault.Beyond (passing (Ok a.equation) (λ q. found (equation_check n q))))
+    (refuse a.far Fault.Beyond (passing (Ok a.equation) (equation_check n)))
 
 unfoldable pub equation_of : ℕ → List ℕ → Found Equation
 equation_of n l = terms_by n (read_equation n l)
