@@ -1,4 +1,3 @@
 pub mod Checked
 pub mod Single
-pub mod Tells
 pub mod Ways

@@ -1,14 +1,15 @@
 -- Lines that hold a word, or one count.
-use Prim.Native.Nat.{ℕ, ◌+◌, ◌≤◌, ◌<◌}
+use Prim.Native.Nat.{ℕ, ◌+◌, ◌≤◌}
 use native.Mathlib.Omega.{arith}
 use mathlib.Core.Path.{◌≡◌, refl, ap}
 use mathlib.Core.List.{List}
 use mathlib.Core.Bool.{Bool, true, false, cond, false≢true}
 use lib.ListN.{length}
 use lib.Dec.{ltb}
+use lib.IntN.{ℤ}
 use Rattle.faults.specs.declared.Fault.{Fault}
 use Rattle.digits.specs.Number.{read_number}
-use Rattle.text.specs.Counts.{count_of}
+use Rattle.text.specs.Counts.{in_count, count_of}
 use Rattle.text.specs.Keys.{same_bytes, body_of}
 use Rattle.jobs.specs.declared.Kind.{Kind}
 use Rattle.jobs.specs.declared.Verdict.{Verdict}
@@ -17,13 +18,15 @@ use Rattle.reading.specs.Places.{line_end, line_at}
 use Rattle.reading.proofs.Ends.{line-end}
 use Rattle.text.proofs.Keys.{same-was}
 use Rattle.scan.proofs.Parts.{part_length}
-use Rattle.scan.specs.declared.CountAt.{CountAt}
-use Rattle.scan.specs.Lines.{line_of, number_of, counted_of, line_is}
+use Rattle.scan.specs.declared.At.{At}
+use Rattle.text.specs.declared.Uncounted.{Uncounted}
+use Rattle.scan.specs.Lines.{line_of, number_of, counted_of, with_next, line_is}
 use Rattle.lines.specs.Lines.{misspelled, word_or, kind_of, verdict_of}
 use Rattle.lines.specs.Texts.{kind_text, verdict_text}
-use Rattle.line_read.specs.At.{said, onward, count_at, past_if}
-use Rattle.std.specs.Prelude.{Ok, Some, None, Option}
+use Rattle.line_read.specs.At.{said, onward, line_from, word_from}
+use Rattle.std.specs.Prelude.{Result, Ok, Err, Some, None, Option}
 use Rattle.faults.specs.Checked.{Found}
+use Rattle.std.specs.Option.{ok_or}
 
 -- ---- a word
 
@@ -64,46 +67,101 @@ pub verdict-is : (t : List ℕ) (a : ℕ)
 unfolding verdict_of
 verdict-is t a = simp (said-word, said-none)
 
--- the place after a line is never 0
-module _ (w t : List ℕ) (a : ℕ) {r : ℕ} (p : r ≡ past_if (line_is w t a) t a) where
-  pub past-yes : 0 < r → (line_is w t a ≡ true) × (r ≡ onward t a)
-  past-yes h = go (line_is w t a) p
-    where
-      go : (c : Bool) → r ≡ past_if c t a → (c ≡ true) × (r ≡ onward t a)
-      go true q = (refl, q)
-      go false q = absurd (omega arith)
+-- what stands there, or else what stands here
+abbrev pub or_else : {A : Type 0} → Option A → Option A → Option A
+or_else (Some x) other = Some x
+or_else None other = other
 
-  pub past-no : r ≤ 0 → line_is w t a ≡ false
-  past-no h = go (line_is w t a) p
-    where
-      go : (c : Bool) → r ≡ past_if c t a → c ≡ false
-      go true q = absurd (omega arith)
-      go false q = refl
+abbrev kind_there : Kind → List ℕ → ℕ → Option (At Kind)
+kind_there k t a = word_from (kind_text k) k t a
+
+pub kind-line : (t : List ℕ) (a : ℕ)
+    → ok_or (or_else (or_else (kind_there Kind.Poly t a) (kind_there Kind.Linear t a)) (kind_there Kind.Eigen t a))
+    Fault.Spelling
+    ≡ line_from (said kind_of t a) (onward t a)
+kind-line t a =
+    rw (kind-is t a)
+    (go (line_is (kind_text Kind.Poly) t a) (line_is (kind_text Kind.Linear) t a) (line_is (kind_text Kind.Eigen) t a))
+  where
+    at : Bool → Kind → Option (At Kind)
+    at b k = cond b (Some (record { value = k; next = onward t a })) None
+
+    go : (p l e : Bool)
+        → ok_or (or_else (or_else (at p Kind.Poly) (at l Kind.Linear)) (at e Kind.Eigen)) Fault.Spelling
+        ≡ line_from (cond p (Ok Kind.Poly) (cond l (Ok Kind.Linear) (cond e (Ok Kind.Eigen) misspelled))) (onward t a)
+    go true l e = refl
+    go false true e = refl
+    go false false true = refl
+    go false false false = refl
+
+abbrev verdict_there : Verdict → List ℕ → ℕ → Option (At Verdict)
+verdict_there v t a = word_from (verdict_text v) v t a
+
+pub verdict-line : (t : List ℕ) (a : ℕ)
+    → ok_or
+    (or_else
+    (or_else
+    (or_else (verdict_there Verdict.None t a) (verdict_there Verdict.Unique t a))
+    (verdict_there Verdict.Stalled t a))
+    (verdict_there Verdict.Spent t a))
+    Fault.Spelling
+    ≡ line_from (said verdict_of t a) (onward t a)
+verdict-line t a =
+    rw (verdict-is t a)
+    (go (line_is (verdict_text Verdict.None) t a) (line_is (verdict_text Verdict.Unique) t a)
+    (line_is (verdict_text Verdict.Stalled) t a) (line_is (verdict_text Verdict.Spent) t a))
+  where
+    at : Bool → Verdict → Option (At Verdict)
+    at b v = cond b (Some (record { value = v; next = onward t a })) None
+
+    go : (n u s p : Bool)
+        → ok_or
+        (or_else (or_else (or_else (at n Verdict.None) (at u Verdict.Unique)) (at s Verdict.Stalled)) (at p Verdict.Spent))
+        Fault.Spelling
+        ≡ line_from
+        (cond n (Ok Verdict.None)
+        (cond u (Ok Verdict.Unique) (cond s (Ok Verdict.Stalled) (cond p (Ok Verdict.Spent) misspelled))))
+        (onward t a)
+    go true u s p = refl
+    go false true s p = refl
+    go false false true p = refl
+    go false false false true = refl
+    go false false false false = refl
 
 -- ---- a count
 
-pub count-is : (out : Fault) (key : List ℕ) (most : ℕ) (t : List ℕ) (a : ℕ) {x : CountAt}
+-- why there is no count, as a fault
+abbrev pub told : Fault → Result (At ℕ) Uncounted → Found (At ℕ)
+told out (Ok y) = Ok y
+told out (Err Uncounted.Bad) = Err Fault.Spelling
+told out (Err Uncounted.Out) = Err out
+
+pub count-is : (out : Fault) (key : List ℕ) (most : ℕ) (t : List ℕ) (a : ℕ) {x : Result (At ℕ) Uncounted}
     → x ≡ counted_of most (number_of key t a) (line_end t a)
-    → count_at (counted Fault.Spelling out x.count) x.next
-    ≡ count_at (said (count_line Fault.Spelling out key most) t a) (onward t a)
+    → told out x ≡ line_from (said (count_line Fault.Spelling out key most) t a) (onward t a)
 unfolding line_at count_line counted counted_of count_of
 count-is out key most t a {x} w = go (ltb (line_end t a) (length t)) (read_number (body_of key (line_of t a))) w
   where
+    one : (c : Result ℕ Uncounted)
+        → told out (with_next c (onward t a)) ≡ line_from (counted Fault.Spelling out c) (onward t a)
+    one (Ok m) = refl
+    one (Err Uncounted.Bad) = refl
+    one (Err Uncounted.Out) = refl
+
     go : (e : Bool) (v : Option ℤ) → x ≡ counted_of most (cond e v None) (line_end t a)
-        → count_at (counted Fault.Spelling out x.count) x.next
-        ≡ count_at (cond e (counted Fault.Spelling out (count_of most v)) misspelled) (onward t a)
-    go true (Some v) p = rw p
+        → told out x ≡ line_from (cond e (counted Fault.Spelling out (count_of most v)) misspelled) (onward t a)
+    go true (Some v) p = rw p (one (in_count most v))
     go true None p = rw p
     go false v p = rw p
 
 -- a line that is these bytes ends after them
 pub line-past : (w t : List ℕ) (a : ℕ) → a ≤ length t → line_is w t a ≡ true
-    → a + length w + 1 ≡ past_if (line_is w t a) t a
+    → a + length w + 1 ≡ onward t a
 line-past w t a h y =
     let end = line-end t a h in
     let same = ap length
     (same-was w (line_of t a) (ended (ltb (line_end t a) (length t)) (same_bytes w (line_of t a)) y)) in
-    rw y (omega (arith, end.after, end.inside, same, part_length t a (line_end t a) end.after end.inside))
+    omega (arith, end.after, end.inside, same, part_length t a (line_end t a) end.after end.inside)
   where
     ended : (e s : Bool) → cond e s false ≡ true → s ≡ true
     ended true s z = z

@@ -1,19 +1,29 @@
--- `line_read::counts::unknowns_line` meets its contract.
-use mathlib.Core.Path.{refl, ap₂, ◌∙◌}
-use Rattle.faults.specs.Checks.{first_of}
+use mathlib.Core.Path.{◌≡◌, ◌∙◌}
+use borrow.Author.Rules.{rules}
+use Rattle.std.specs.Prelude.{Err}
 use Rattle.text.specs.Keys.{body_of}
-use Rattle.checks.specs.Checks.{unknowns_check}
 use Rattle.text.specs.Words.{n_key}
+use Rattle.checks.specs.Checks.{unknowns_check}
 use Rattle.lines.specs.Lines.{digit_is, unknowns_of}
-use Rattle.line_read.specs.At.{small_at}
-use Rattle.line_read.proofs.Checked.{checked-line, digit-spells}
+use Rattle.line_read.proofs.Checked.{misspelled-line, bad-line, good-line, digit-line}
 use Rattle.line_read.proofs.counts.unknowns_line.Goals as goal
+
+pub returns-in_err-digit : goal.returns-in_err-digit
+unfolding unknowns_of
+returns-in_err-digit c =
+    let e : c.from_residual.result ≡ Err c.in_err-digit.field-0.0 = search rules in
+    e ∙ misspelled-line (λ l. digit_is (body_of n_key l)) unknowns_check _ _
+    (c.in_err-digit.ensures.value ∙ digit-line n_key _ _ c.digit_at.ensures)
+
+pub returns-in_err-unknowns_check : goal.returns-in_err-unknowns_check
+unfolding unknowns_of
+returns-in_err-unknowns_check c =
+    let e : c.from_residual-in_err-unknowns_check.result ≡ Err c.in_err-unknowns_check.field-0.0 = search rules in
+    e ∙ bad-line (λ l. digit_is (body_of n_key l)) unknowns_check _ _
+    (c.in_ok-digit.ensures.value ∙ digit-line n_key _ _ c.digit_at.ensures) c.in_err-unknowns_check.ensures
 
 pub returns : goal.returns
 unfolding unknowns_of
 returns c =
-    checked-line small_at (λ f b e. refl) (λ l. digit_is (body_of n_key l)) unknowns_check _ _
-    (digit-spells n_key _ _ c.digit_at-d.ensures)
-    (c.first_of-found.ensures
-    ∙ ap₂ first_of c.bad_unless.ensures c.unknowns_check.ensures)
-    c.judged.ensures
+    good-line (λ l. digit_is (body_of n_key l)) unknowns_check _ _
+    (c.in_ok-digit.ensures.value ∙ digit-line n_key _ _ c.digit_at.ensures) c.in_ok-unknowns_check.ensures

@@ -1,19 +1,27 @@
--- `line_read::counts::written_pin` meets its contract, by its two tests.
-use mathlib.Core.Path.{sym, ap, ◌∙◌}
-use mathlib.Core.Bool.{Bool}
-use borrow.Author.Tests.{ne_eqb}
+use mathlib.Core.Path.{◌≡◌, sym, ap, ◌∙◌}
+use mathlib.Core.Bool.{Bool, true, false, not, ◌&&◌}
+use lib.Dec.{eqb}
 use Rattle.faults.specs.declared.Fault.{Fault}
 use Rattle.faults.specs.Checks.{bad_unless}
-use Rattle.checks.specs.Checks.{pin_check}
-use Rattle.lines.proofs.Pins.{written_is, written_last}
+use Rattle.checks.specs.Checks.{good_pin}
+use Rattle.lines.specs.Lines.{written_pin}
 use Rattle.line_read.proofs.counts.written_pin.Goals as goal
+use Rattle.line_read.proofs.counts.written_pin.Goals.{then-one_to, else-one_to}
 
-pub returns-then-pin-n : goal.returns-then-pin-n
-returns-then-pin-n c = sym (written_last _ _ c.if-pin-n.true)
+on : {x a b : Bool} → a ≡ true → x ≡ b → x ≡ (a && b)
+on e f = rw e f
+
+off : {x r a : Bool} (b : Bool) → r ≡ a → r ≡ false → x ≡ r → x ≡ (a && b)
+off b e f g = rw (sym e ∙ f) (g ∙ f)
 
 pub returns : goal.returns
-unfolding pin_check
+unfolding written_pin
 returns c =
-    c.bad_unless.ensures
-    ∙ ap (λ (b : Bool). bad_unless b Fault.Pin) c.one_to.ensures
-    ∙ sym (written_is _ _ (ne_eqb _ _ c.if-pin-n.false))
+    let n = c.args.n in
+    let pin = c.args.pin in
+    let both : c.if-one_to.bad_unless ≡ (good_pin n pin && not (eqb pin n)) =
+    elim c.if-one_to.branch [
+      | then-one_to w ↦ on (sym c.one_to.ensures ∙ w.if-one_to.true) w.bad_unless-is
+      | else-one_to w ↦ off _ c.one_to.ensures w.if-one_to.false w.bad_unless-is
+    ] in
+    c.bad_unless.ensures ∙ ap (λ (b : Bool). bad_unless b Fault.Pin) both
