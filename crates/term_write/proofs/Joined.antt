@@ -9,6 +9,7 @@ use Rattle.digits.specs.Bytes.{comma}
 use Rattle.lists.specs.Loops.{tab}
 use Rattle.lists.proofs.Tab.{length-tab}
 use Rattle.text.specs.Lists.{after_commas, joined}
+use Rattle.writing.proofs.Lists.{after-snoc}
 use Rattle.term_write.specs.ShowTerms.{comma_before}
 
 tab-snoc : {A : Type 0} (d : A) (m : ℕ) (f : ℕ → A) → tab (suc m) (suc m) d f ≡ tab m m d f ++ (f m ∷ [])
@@ -23,14 +24,6 @@ tab-next d m f = rw add-one (tab-snoc d m f)
 pub tab-empty : {A : Type 0} (d : A) (f : ℕ → A) → tab 0 0 d f ≡ []
 unfolding tab
 tab-empty d f = refl
-
-after-snoc : (xs : List (List ℕ)) (x : List ℕ) → after_commas (xs ++ (x ∷ [])) ≡ (after_commas xs ++ (comma ∷ [])) ++ x
-unfolding after_commas
-after-snoc [] x = ap (λ (l : List ℕ). comma ∷ l) (append-nil x)
-after-snoc (y ∷ ys) x =
-    ap (λ (l : List ℕ). comma ∷ (y ++ l)) (after-snoc ys x)
-    ∙ ap (λ (l : List ℕ). comma ∷ l) (sym (append_assoc y (after_commas ys ++ (comma ∷ [])) x)
-    ∙ ap (λ (l : List ℕ). l ++ x) (sym (append_assoc y (after_commas ys) (comma ∷ []))))
 
 -- the last item stands after a comma, unless it is the first
 pub joined_snoc : (xs : List (List ℕ)) (x : List ℕ)

@@ -16,13 +16,9 @@ fn put_exponents(buf: &mut [u8], at: usize, t: Term, n: usize) -> usize
     requires { ExponentsFit at n t }
     ensures { Wrote buf.old buf.new at result (show_exponents n t) }
 {
-    let exps = t.exps;
     let mut p = at;
-    let mut k = 0;
-    while k < n {
-        let e = exps[k];
-        p = put_byte(buf, p, b'0' + e);
-        k += 1;
+    for e in &t.exps[..n] {
+        p = put_byte(buf, p, b'0' + *e);
     }
     p
 }
@@ -51,15 +47,10 @@ fn put_terms(buf: &mut [u8], at: usize, q: Equation, n: usize) -> usize
     requires { EquationFits at n q }
     ensures { Wrote buf.old buf.new at result (joined (term_texts n q q.count)) }
 {
-    let count = q.count;
-    let terms = q.terms;
     let mut p = at;
-    let mut i = 0;
-    while i < count {
-        let t = terms[i];
+    for (i, t) in q.terms[..q.count].iter().enumerate() {
         p = put_comma(buf, p, i);
-        p = put_term(buf, p, t, n);
-        i += 1;
+        p = put_term(buf, p, *t, n);
     }
     p
 }

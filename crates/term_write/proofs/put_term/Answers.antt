@@ -12,14 +12,6 @@ use Rattle.term_text.specs.Terms.{colon}
 use Rattle.term_write.specs.ShowTerms.{show_exponents, show_term}
 use Rattle.term_write.proofs.put_term.Goals as goal
 
-pub put_number-a-requires : goal.put_number-a-requires
-put_number-a-requires c =
-    let v = c.args.t.coef in (
-      omega arith,
-      omega (arith, c.requires.room),
-      rw (to_z-of_z {w = w64} {z = v} (search rules)) (omega (arith, c.requires.size.abs)),
-    )
-
 pub put_byte-b-requires : goal.put_byte-b-requires
 put_byte-b-requires c =
     let v = c.args.t.coef in

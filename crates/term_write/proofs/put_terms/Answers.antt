@@ -1,9 +1,15 @@
-use native.Mathlib.Nat.{le_antisymm}
+-- `term_write::put_terms` meets its contract.
+use borrow.Author.Rules.{rules}
+use Prim.Native.Nat.{◌<◌}
 use native.Mathlib.Omega.{arith}
+use mathlib.Core.Path.{◌≡◌}
+use lib.ListN.{length, length-take}
+use lib.Seq.{length-take-le, get_or-take}
+use Rattle.sizes.specs.Sizes.{terms_max}
 use Rattle.lists.specs.Loops.{tab}
 use Rattle.text.specs.Lists.{joined}
-use Rattle.jobs.specs.Places.{exp_of, term_at}
-use Rattle.writing.proofs.Wrote.{wrote-append, wrote_none, wrote-length}
+use Rattle.jobs.specs.Places.{exp_of, term_at, no_term}
+use Rattle.writing.proofs.Wrote.{wrote-append, wrote_none}
 use Rattle.term_write.specs.ShowTerms.{term_texts}
 use Rattle.term_write.proofs.Joined.{joined-next, comma-short}
 use Rattle.term_write.proofs.Terms.{digit_low, terms-short}
@@ -12,13 +18,7 @@ use Rattle.term_write.proofs.put_terms.Goals as goal
 
 pub loop-i-init : goal.loop-i-init
 unfolding tab joined
-loop-i-init c = record { live = omega arith; wrote = wrote_none _ _ }
-
-pub offset_bounds-terms-i : goal.offset_bounds-terms-i
-offset_bounds-terms-i c = omega (arith, c.requires.good.few, c.loop-i-test.true)
-
-pub bounds-terms-i : goal.bounds-terms-i
-bounds-terms-i c = omega (arith, c.requires.good.few, c.loop-i-test.true)
+loop-i-init c = wrote_none _ _
 
 pub put_comma-p-requires : goal.put_comma-p-requires
 unfolding term_texts
@@ -26,8 +26,9 @@ put_comma-p-requires c =
     let l = c.loop-i in
     omega (
       arith,
-      l.invariant.wrote.next,
+      l.invariant.next,
       terms-short c.args.n c.args.q l.i c.requires.few,
+      length-take c.args.q.count c.args.q.terms,
       c.requires.room,
       c.requires.good.few,
       c.loop-i-test.true,
@@ -39,13 +40,14 @@ put_term-p-requires c =
     let l = c.loop-i in
     let q = c.args.q in
     let n = c.args.n in
-    let live = c.loop-i-test.true in
     let good = c.requires.good in
-    record {
+    let live : l.i < q.count = omega (arith, c.loop-i-test.true, length-take q.count q.terms) in
+    rw (get_or-take q.count q.terms l.i no_term live)
+    (record {
       few = c.requires.few;
       room = omega (
         arith,
-        l.invariant.wrote.next,
+        l.invariant.next,
         c.put_comma-p.ensures.next,
         comma-short l.i,
         terms-short n q l.i c.requires.few,
@@ -55,24 +57,24 @@ put_term-p-requires c =
       );
       size = good.size l.i live;
       digits = λ k h. omega (arith, digit_low (exp_of (term_at q l.i)) n k h, good.deg l.i live);
-    }
+    })
 
 pub loop-i-preserved : goal.loop-i-preserved
 loop-i-preserved c =
-    let args =
-    c.args in
     let l = c.loop-i in
-    record {
-      live = omega arith;
-      wrote = rw (joined-next l.i (text_at args.n args.q.terms))
-          (wrote-append
-          (wrote-append l.invariant.wrote c.put_comma-p.ensures)
-          c.put_term-p.ensures);
-    }
-
-pub shape_of-buf : goal.shape_of-buf
-shape_of-buf c = wrote-length c.loop-i.invariant.wrote
+    let q = c.args.q in
+    let live : l.i < q.count = omega (arith, c.loop-i-test.true, length-take q.count q.terms) in
+    rw (joined-next l.i (text_at c.args.n q.terms))
+    (wrote-append
+    (wrote-append l.invariant c.put_comma-p.ensures)
+    (rw (get_or-take q.count q.terms l.i no_term live) at c.put_term-p.ensures))
 
 pub returns : goal.returns
 unfolding term_texts
-returns c = rw (le_antisymm c.loop-i.invariant.live c.loop-i-test.false) at c.loop-i.invariant.wrote
+returns c =
+    let l = c.loop-i in
+    let q = c.args.q in
+    let long : length q.terms ≡ terms_max = search rules in
+    let whole = length-take-le q.count q.terms (omega (arith, c.requires.good.few)) in
+    let all : l.i ≡ q.count = omega (arith, whole, l.auto.i-end, c.loop-i-test.false) in
+    rw all at l.invariant
