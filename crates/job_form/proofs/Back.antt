@@ -23,9 +23,7 @@ use Rattle.reading.proofs.Told.{after-after}
 use Rattle.reading.proofs.NumberLines.{count-plain, list-plain}
 use Rattle.reading.proofs.Walk.{Law}
 use Rattle.term_round.proofs.ReadBack.{equation-above}
-use Rattle.lines.specs.Found.{found}
 use Rattle.lines.specs.Texts.{count_text, matrix_list}
-use Rattle.lines.proofs.Found.{found-fine}
 use Rattle.lines.proofs.Words.{kind-above, kind-back}
 use Rattle.lines.proofs.Checks.{low_small, high_small, number_spelled, steps-spelled}
 use Rattle.lines.proofs.Unknowns.{unknowns-back}
@@ -60,7 +58,7 @@ upto-none j =
 module _ (j : Job) (i : ℕ) (size : Sized j) (l : i < j.head.n) where
   line-says : SpelledLine j.head.kind j i
       → job_says (JobLine.System i) (upto_system i j) (system_text j.head.kind j i)
-      ≡ after (found (system_check j.head.kind j i))
+      ≡ after (system_check j.head.kind j i)
       (λ u. leaves (after_system i j.head.n) (job_upto (after_system i j.head.n) j))
   unfolding job_says
   line-says s =
@@ -71,16 +69,16 @@ module _ (j : Job) (i : ℕ) (size : Sized j) (l : i < j.head.n) where
       says_is k v i (system_text k j i)
       ∙ ap (λ r. after r (λ x. leaves (after_system i n) (with_system v (said_put k v.system i x))))
       (said-back k j i size.0 size.1 s)
-      ∙ after-after (found (system_check k j i)) _ _
-      ∙ ap (λ (x : Job). after (found (system_check k j i)) (λ u. leaves (after_system i n) x)) more
+      ∙ after-after (system_check k j i) _ _
+      ∙ ap (λ (x : Job). after (system_check k j i) (λ u. leaves (after_system i n) x)) more
 
 -- ---- each line
 
 pub law : (j : Job) (k : JobLine) → Has j k → job_end k ≡ false → Law job_form_of job_shows j (Has j) (Spelt j) k
 unfolding job_says shown_check line_check after
 law j JobLine.Number h o = record {
-  says = λ s. rw (number-back j.head.number s) (after-after (found (number_check j.head.number)) _ _);
-  spelt = λ e. number_spelled j.head.number (found-fine _ e);
+  says = λ s. rw (number-back j.head.number s) (after-after (number_check j.head.number) _ _);
+  spelt = λ e. number_spelled j.head.number e;
   has = λ e. tt;
 }
 law j JobLine.Kind h o = record {
@@ -91,11 +89,11 @@ law j JobLine.Kind h o = record {
 law j JobLine.Unknowns h o = record {
   says = λ s.
       rw (unknowns-back j.head.n s)
-      (after-after (found (unknowns_check j.head.n)) _ _
-      ∙ ap (λ (x : Job). after (found (unknowns_check j.head.n)) (λ u. leaves (after_n j.head.kind) x))
+      (after-after (unknowns_check j.head.n) _ _
+      ∙ ap (λ (x : Job). after (unknowns_check j.head.n) (λ u. leaves (after_n j.head.kind) x))
       (after-unknowns j));
-  spelt = λ e. let f = unknowns-fine j.head.n (found-fine _ e) in omega arith;
-  has = λ e. unknowns-has j (unknowns-fine j.head.n (found-fine _ e));
+  spelt = λ e. let f = unknowns-fine j.head.n e in omega arith;
+  has = λ e. unknowns-has j (unknowns-fine j.head.n e);
 }
 law j JobLine.Pin h o = record {
   says = fourth-says j h.0 h.1;
@@ -105,37 +103,37 @@ law j JobLine.Pin h o = record {
 law j JobLine.Lo h o = record {
   says = λ s.
       rw (low-back j.head.n h.0.0 h.0.1 j.ends.lo s)
-      (after-after (found (low_check j.head.n j.ends.lo)) _ _);
-  spelt = λ e. low_small j.head.n j.ends.lo (found-fine _ e);
+      (after-after (low_check j.head.n j.ends.lo) _ _);
+  spelt = λ e. low_small j.head.n j.ends.lo e;
   has = λ e. h.0;
 }
 law j JobLine.Hi h o = record {
   says = λ s.
       rw (high-back j.head.n h.0 h.1 j.ends.lo j.ends.hi s)
-      (after-after (found (high_check j.head.n j.ends.lo j.ends.hi)) _ _);
-  spelt = λ e. high_small j.head.n j.ends.hi j.ends.lo (found-fine _ e);
+      (after-after (high_check j.head.n j.ends.lo j.ends.hi) _ _);
+  spelt = λ e. high_small j.head.n j.ends.hi j.ends.lo e;
   has = λ e. h;
 }
 law j JobLine.Inv h o = record {
   says = λ s.
       rw (inverse-back j.head.n h.0 h.1 j.inv s)
-      (after-after (found (inverse_check j.head.n j.inv)) _ _);
-  spelt = λ e. matrix-small j.head.n h.0 h.1 j.inv (found-fine _ e);
+      (after-after (inverse_check j.head.n j.inv) _ _);
+  spelt = λ e. matrix-small j.head.n h.0 h.1 j.inv e;
   has = λ e. h;
 }
 law j JobLine.Steps h o = record {
   says = λ s.
       rw (steps_back j.steps s)
-      (after-after (found (steps_check j.steps)) _ _
-      ∙ ap₂ (λ (k : JobLine) (x : Job). after (found (steps_check j.steps)) (λ u. leaves k x))
+      (after-after (steps_check j.steps) _ _
+      ∙ ap₂ (λ (k : JobLine) (x : Job). after (steps_check j.steps) (λ u. leaves k x))
       (sym (first_one j.head.n h.0))
       (sym (upto-none j) ∙ ap (λ (k : JobLine). job_upto k j) (sym (first_one j.head.n h.0))));
-  spelt = λ e. steps-spelled j.steps (found-fine _ e);
+  spelt = λ e. steps-spelled j.steps e;
   has = λ e. rw (first_one j.head.n h.0) (h, h.0);
 }
 law j (JobLine.System i) h o = record {
   says = line-says j i h.0 h.1;
-  spelt = λ e. said-spelled j.head.kind j i (found-fine _ e);
+  spelt = λ e. said-spelled j.head.kind j i e;
   has = λ e. after-has i j h.0 h.1;
 }
 law j JobLine.End h o = absurd (true≢false o)

@@ -27,14 +27,17 @@ use Rattle.jobs.specs.declared.JobLine.{JobLine}
 use Rattle.jobs.specs.Lines.{pin_lines, after_n, job_number}
 use Rattle.jobs.specs.Parts.{last_pin, with_number, with_kind, with_unknowns}
 use Rattle.jobs.specs.Zero.{no_job}
+use Rattle.checks.specs.Answered.{job_in}
+use Rattle.lines.specs.Answered.{answered}
+use Rattle.lines.proofs.Answered.{answer-done}
 use Rattle.lines.specs.Lines.{number_of, kind_of, unknowns_of}
-use Rattle.job_form.specs.JobForm.{after_system, system_says, job_says, low_says, job_form_of, job_answer, read_job}
+use Rattle.job_form.specs.JobForm.{after_system, system_says, job_says, low_says, job_form_of, read_job}
 use Rattle.job_form.specs.JobBytes.{pin_written, job_shows}
 use Rattle.job_form.specs.Live.{live_pin, live}
 use Rattle.job_form.proofs.Order.{ends, Shape, shape}
 use Rattle.job_form.proofs.Reached.{Has, Spelt}
 use Rattle.job_form.proofs.Fourth.{pin-last}
-use Rattle.job_form.proofs.Trips.{laws, answer-done}
+use Rattle.job_form.proofs.Trips.{laws}
 use Rattle.job_form.proofs.Answers.{whole}
 use Rattle.job_form.specs.Before.{says_before, form_before, read_before, Unpinned}
 use Rattle.std.specs.Prelude.{Ok, Err}
@@ -223,7 +226,7 @@ last-pinned t j u e =
 module _ (t : List ℕ) (u : Unpinned t) where
   pub old-read : read_job t ≡ read_before t
   unfolding read_job read_before
-  old-read = ap job_answer (read-before t u)
+  old-read = ap answered (read-before t u)
 
   pub old-last : status_of (read_job t) ≡ Ok tt
       → (job_in (read_job t)).head.pin ≡ last_pin (job_in (read_job t)).head.kind (job_in (read_job t)).head.n

@@ -25,10 +25,8 @@ use Rattle.reading.specs.Results.{after}
 use Rattle.reading.specs.Lines.{Next}
 use Rattle.reading.specs.NumberLines.{placed}
 use Rattle.reading.proofs.Told.{after-after}
-use Rattle.lines.specs.Found.{found}
 use Rattle.lines.specs.Lines.{pin_of, low_of}
 use Rattle.lines.specs.Texts.{count_text}
-use Rattle.lines.proofs.Found.{found-fine}
 use Rattle.lines.proofs.Pins.{pin-back, pin-spelled}
 use Rattle.lines.proofs.Back.{low-back}
 use Rattle.lines.proofs.Checks.{low_small}
@@ -106,44 +104,44 @@ module _ (j : Job) (size : Sized j) (eigen : j.head.kind ≡ Kind.Eigen) where
       (after (low_of j.head.n l) (λ xs. leaves JobLine.Hi (with_lo (upto_pin j) xs)))
 
   says-pin : pin_written j ≡ true → SpeltPin true j
-      → says_by (count_text pin_key j.head.pin) ≡ after (found (finds true)) (λ u. leaves JobLine.Lo (upto_low j))
+      → says_by (count_text pin_key j.head.pin) ≡ after (finds true) (λ u. leaves JobLine.Lo (upto_low j))
   unfolding starts_with
   says-pin w s =
       ap (λ r. after r (λ p. leaves JobLine.Lo (with_pin (upto_pin j) p)))
       (pin-back j.head.n j.head.pin s (pin-other j eigen w))
-      ∙ after-after (found (pin_check Kind.Eigen j.head.n j.head.pin)) _ _
-      ∙ ap₂ (λ (f : Finding) (p : ℕ). after (found f) (λ u. leaves JobLine.Lo (with_pin (upto_pin j) p)))
+      ∙ after-after (pin_check Kind.Eigen j.head.n j.head.pin) _ _
+      ∙ ap₂ (λ (f : Finding) (p : ℕ). after f (λ u. leaves JobLine.Lo (with_pin (upto_pin j) p)))
       (ap (λ (k : Kind). pin_check k j.head.n j.head.pin) (sym eigen) ∙ first_alone _)
       (ap (λ (k : Kind). live_pin k j.head.pin) (sym eigen))
 
   says-low : pin_written j ≡ false → SpeltPin false j
-      → says_by (low_text j) ≡ after (found (finds false)) (λ u. leaves JobLine.Hi (job_upto JobLine.Hi j))
+      → says_by (low_text j) ≡ after (finds false) (λ u. leaves JobLine.Hi (job_upto JobLine.Hi j))
   unfolding starts_with
   says-low w s =
       ap (λ r. after r (λ xs. leaves JobLine.Hi (with_lo (upto_pin j) xs)))
       (low-back j.head.n size.0 size.1 j.ends.lo s)
-      ∙ after-after (found (low_check j.head.n j.ends.lo)) _ _
+      ∙ after-after (low_check j.head.n j.ends.lo) _ _
       ∙ ap₂ (λ (f : Finding) (v : Job).
-      after (found f) (λ u. leaves JobLine.Hi (with_lo v (placed n_max j.head.n j.ends.lo))))
+      after f (λ u. leaves JobLine.Hi (with_lo v (placed n_max j.head.n j.ends.lo))))
       (sym (fine-then _ _ (last-passes w))) (last-read w)
 
   pub fourth-says : SpeltPin (pin_written j) j
       → job_says JobLine.Pin (upto_pin j) (job_line JobLine.Pin j)
-      ≡ after (found (shown_check JobLine.Pin j))
+      ≡ after (shown_check JobLine.Pin j)
       (λ u. leaves (job_next JobLine.Pin j) (job_upto (job_next JobLine.Pin j) j))
   unfolding job_says shown_check line_check
   fourth-says s = go (pin_written j) refl s
     where
       go : (b : Bool) → pin_written j ≡ b → SpeltPin b j
           → says_by (cond b (count_text pin_key j.head.pin) (low_text j))
-          ≡ after (found (finds b))
+          ≡ after (finds b)
           (λ u. leaves (cond b JobLine.Lo JobLine.Hi) (job_upto (cond b JobLine.Lo JobLine.Hi) j))
       go true w s = says-pin w s
       go false w s = says-low w s
 
-  pub fourth-spelt : found (shown_check JobLine.Pin j) ≡ Ok tt → SpeltPin (pin_written j) j
+  pub fourth-spelt : shown_check JobLine.Pin j ≡ Ok tt → SpeltPin (pin_written j) j
   unfolding shown_check line_check
-  fourth-spelt e = go (pin_written j) (found-fine _ e)
+  fourth-spelt e = go (pin_written j) e
     where
       go : (b : Bool) → finds b ≡ Ok tt → SpeltPin b j
       go true f =

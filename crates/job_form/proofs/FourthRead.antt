@@ -23,10 +23,8 @@ use Rattle.reading.specs.Shows.{lines_of, Passed, Kept}
 use Rattle.reading.proofs.Told.{told-after}
 use Rattle.reading.proofs.Trips.{Grown, line_same}
 use Rattle.reading.proofs.Walk.{passed-join, passed-next}
-use Rattle.lines.specs.Found.{found}
 use Rattle.lines.specs.Lines.{pin_of, low_of}
 use Rattle.lines.specs.Texts.{count_text, row_text}
-use Rattle.lines.proofs.Found.{found-fine}
 use Rattle.lines.proofs.Was.{LineWas}
 use Rattle.lines.proofs.Pins.{PinWas, pin-told}
 use Rattle.lines.proofs.Told.{low_told}
@@ -60,7 +58,7 @@ unknowns-grown v l p n was =
         passed = rw (prior-fourth v n) (passed-next job_shows u JobLine.Unknowns p.passed was.fine);
         only = sym (after-unknowns u) ∙ ap (λ (j : Job). with_unknowns j n) p.only;
       };
-      has = unknowns-has u (unknowns-fine n (found-fine _ was.fine));
+      has = unknowns-has u (unknowns-fine n was.fine);
     }
 
 -- ---- lo
@@ -113,7 +111,7 @@ module _ (v : Job) (l : List ℕ) (size : Sized v) (xs : List ℤ)
 
     last-check : shown_check JobLine.Pin u ≡ Ok tt
     unfolding shown_check line_check
-    last-check = rw unwritten (both-fine (last-passes v size eigen unwritten) (found-fine _ was.fine))
+    last-check = rw unwritten (both-fine (last-passes v size eigen unwritten) was.fine)
 
     pub last-grown : Kept job_shows JobLine.Pin v → Grown job_shows Has JobLine.Pin v l (leaves JobLine.Hi u)
     unfolding shown_check line_check
@@ -121,7 +119,7 @@ module _ (v : Job) (l : List ℕ) (size : Sized v) (xs : List ℤ)
       lines = ap (lines_of job_shows u) prior-last ∙ last-lines;
       kept = record {
         passed = subst (λ (ks : List JobLine). Passed job_shows ks u) (sym prior-last)
-            (passed-join job_shows u head_kinds (JobLine.Pin ∷ []) p.passed (ap found last-check, tt));
+            (passed-join job_shows u head_kinds (JobLine.Pin ∷ []) p.passed (last-check, tt));
         only = ap₂ with_lo
             (ap₂ with_pin p.only (ap (λ (k : Kind). live_pin k v.head.pin) eigen)) was.whole;
       };
@@ -147,13 +145,13 @@ module _ (v : Job) (l : List ℕ) (size : Sized v) (eigen : v.head.kind ≡ Kind
         let written : pin_written u ≡ true = rw eigen (ap not e.other) in
         let prior : job_prior JobLine.Lo u ≡ head_kinds ++ (JobLine.Pin ∷ []) = rw written in
         let check : shown_check JobLine.Pin u ≡ (Ok tt) =
-        rw (written, eigen) (both-fine (found-fine _ e.was.fine) refl) in
+        rw (written, eigen) (both-fine e.was.fine refl) in
         record {
           lines = ap (lines_of job_shows u) prior
               ∙ rw written (ap (λ (y : List ℕ). lines_of job_shows v head_kinds ++ (y ∷ [])) e.was.shown);
           kept = record {
             passed = subst (λ (ks : List JobLine). Passed job_shows ks u) (sym prior)
-                (passed-join job_shows u head_kinds (JobLine.Pin ∷ []) p.passed (ap found check, tt));
+                (passed-join job_shows u head_kinds (JobLine.Pin ∷ []) p.passed (check, tt));
             only = ap₂ with_pin p.only (ap (λ (k : Kind). live_pin k pin) eigen);
           };
           has = (size, inr (eigen, written));

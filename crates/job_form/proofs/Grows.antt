@@ -16,7 +16,6 @@ use Rattle.reading.specs.Shows.{lines_of, before, Passed, Kept}
 use Rattle.reading.proofs.Told.{told-fault, told-after}
 use Rattle.reading.proofs.Trips.{Grown, line_same}
 use Rattle.reading.proofs.Walk.{passed-join, passed-next, passed-front, passed-rest}
-use Rattle.lines.specs.Found.{found}
 use Rattle.lines.proofs.Was.{LineWas, number-told, steps-told, kind-was}
 use Rattle.lines.proofs.Unknowns.{unknowns-told}
 use Rattle.lines.proofs.Told.{low_told, high-told, inverse-told}
@@ -85,7 +84,7 @@ module _ (v : Job) (i : ℕ) (l : List ℕ) (size : Sized v) (live : i < v.head.
         ∙ sym (map-append (λ k. job_shows.line k v) (box_kinds v) (system_kinds i));
     passed = λ q. passed-join job_shows put (box_kinds put) (system_kinds i)
         (same-box.passed (passed-front job_shows v (box_kinds v) (system_kinds i) q))
-        (each-passed put i (λ m h. ap found (check-stays m h)
+        (each-passed put i (λ m h. check-stays m h
         ∙ passed-each v i (passed-rest job_shows v (box_kinds v) (system_kinds i) q) m h));
   }
 
@@ -108,11 +107,11 @@ module _ (v : Job) (i : ℕ) (l : List ℕ) (size : Sized v) (live : i < v.head.
         ∙ ap (said_text v.head.kind v.head.n) (at_same v.head.n i room v.head.kind v.system x only)
         ∙ e.shown
 
-    check-put : found (system_check v.head.kind put i) ≡ Ok tt
+    check-put : system_check v.head.kind put i ≡ Ok tt
     unfolding put s
     check-put =
-        ap found (check-is v.head.kind put i
-        ∙ ap (said_check v.head.kind v.head.n) (at_same v.head.n i room v.head.kind v.system x only))
+        check-is v.head.kind put i
+        ∙ ap (said_check v.head.kind v.head.n) (at_same v.head.n i room v.head.kind v.system x only)
         ∙ e.fine
 
     lines-put : before job_shows (after_system i v.head.n) put ≡ before job_shows (JobLine.System i) v ++ (l ∷ [])

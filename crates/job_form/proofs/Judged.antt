@@ -4,7 +4,7 @@ use Prim.Native.Nat.{ℕ, zero, suc, ◌+◌}
 use mathlib.Core.Path.{◌≡◌, refl, sym, ap, ◌∙◌}
 use mathlib.Core.List.{List, [], ◌∷◌, ◌++◌, append-nil}
 use mathlib.Core.Bool.{Bool, true, false, cond}
-use Rattle.faults.specs.Checked.{Status, Finding}
+use Rattle.faults.specs.Checked.{Status, Finding, status_of}
 use Rattle.faults.specs.Checks.{first_of, and_then}
 use Rattle.faults.specs.Checks as checks
 use Rattle.faults.proofs.Laws.{then-assoc, fine-skips, line_first}
@@ -18,8 +18,8 @@ use Rattle.jobs.specs.declared.JobLine.{JobLine}
 use Rattle.jobs.specs.Lines.{pin_stands, pin_lines, after_n, job_number}
 use Rattle.reading.specs.Shows.{Passed, findings, judged}
 use Rattle.reading.proofs.Walk.{passed-done}
-use Rattle.lines.specs.Found.{status_of}
-use Rattle.lines.proofs.Found.{status-then}
+use Rattle.lines.specs.Answered.{answered}
+use Rattle.lines.proofs.Answered.{status-then}
 use Rattle.job_form.specs.JobForm.{job_form_of}
 use Rattle.job_form.specs.JobBytes.{system_kinds, pin_written, job_prior, shown_check, job_shows}
 use Rattle.job_form.specs.Live.{live_pin, job_upto}
@@ -28,7 +28,7 @@ use Rattle.job_form.proofs.Fourth.{first_alone}
 use Rattle.job_form.proofs.Lows.{plain-pin}
 use Rattle.std.specs.Prelude.{Ok, Err}
 
-then-done : (s : Status) → and_then s Ok tt ≡ s
+then-done : (s : Status) → and_then s (Ok tt) ≡ s
 unfolding and_then
 then-done (Ok tt) = refl
 then-done (Err r) = refl
@@ -58,7 +58,7 @@ number-upto JobLine.End j = ap (λ (p : ℕ). 7 + p + 1 + j.head.n) (live-lines 
 
 module _ (j : Job) where
   abbrev status_from : List JobLine → Status
-  status_from ks = status_of (findings job_form_of job_shows j ks)
+  status_from ks = status_of (answered (findings job_form_of job_shows j ks))
 
   line-status : (k : JobLine) (ks : List JobLine) {s : Status} → status_from ks ≡ s
       → status_from (k ∷ ks) ≡ and_then (checks.on_line (shown_check k j) (job_number k j.head)) s
@@ -162,7 +162,7 @@ module _ (j : Job) where
       ∙ ap (λ (f : Finding). and_then (checks.on_line f 4) (and_then (job_line_status JobLine.Lo j) high_lines))
       (shown-pinned b)
 
-  pub judged-status : status_of (judged job_form_of job_shows j) ≡ check_job j
+  pub judged-status : status_of (answered (judged job_form_of job_shows j)) ≡ check_job j
   unfolding check_job head_lines body_lines job_line_status shown_check
   judged-status =
       line-status JobLine.Number _
@@ -174,4 +174,4 @@ module _ (j : Job) where
 
   pub passed-accepted : Passed job_shows (job_prior JobLine.End j) j → Accepted j
   passed-accepted p =
-      check_done j (sym judged-status ∙ ap status_of (passed-done job_form_of job_shows j (job_prior JobLine.End j) p))
+      check_done j (sym judged-status ∙ ap (λ a. status_of (answered a)) (passed-done job_form_of job_shows j (job_prior JobLine.End j) p))

@@ -18,9 +18,7 @@ use Rattle.checks.specs.Checks.{number_check, unknowns_check, pin_check, low_che
 use Rattle.checks.specs.Checks.{line_check}
 use Rattle.reading.specs.Shows.{lines_of, Passed}
 use Rattle.reading.proofs.Walk.{passed-join, passed-front, passed-rest}
-use Rattle.lines.specs.Found.{found}
 use Rattle.lines.specs.Texts.{count_text, kind_text, row_text, inverse_text}
-use Rattle.lines.proofs.Found.{found-fine}
 use Rattle.job_form.specs.JobBytes.{pin_written, low_kinds, high_kinds, inverse_kinds, box_kinds}
 use Rattle.job_form.specs.JobBytes.{job_line, shown_check, job_shows}
 use Rattle.job_form.proofs.Order.{Shape, shape}
@@ -63,7 +61,7 @@ plain-pin Kind.Eigen n pin e = absurd (let z : ◌≡◌ {A = ℕ} 0 1 = cc in o
 
 module _ (j : Job) where
   abbrev Checks : JobLine → Type 0
-  Checks k = found (shown_check k j) ≡ Ok tt
+  Checks k = shown_check k j ≡ Ok tt
 
   pub passed-fine : Passed job_shows (low_kinds j) j → LowFine j.head j.ends.lo
   unfolding shown_check line_check
@@ -72,8 +70,8 @@ module _ (j : Job) where
       all : pin_check j.head.kind j.head.n j.head.pin ≡ Ok tt
           → low_check j.head.n j.ends.lo ≡ Ok tt → LowFine j.head j.ends.lo
       all pin low = record {
-        number = found-fine _ p.0;
-        unknowns = found-fine _ p.1.1.0;
+        number = p.0;
+        unknowns = p.1.1.0;
         pin = pin;
         low = low;
       }
@@ -81,26 +79,26 @@ module _ (j : Job) where
       go : Shape j → Checks (after_n j.head.kind) × Passed job_shows (cond (pin_written j) (JobLine.Lo ∷ []) []) j
           → LowFine j.head j.ends.lo
       go (Shape.plain e b) q =
-          all (plain-pin j.head.kind j.head.n j.head.pin e) (found-fine _ (rw e at q.0))
+          all (plain-pin j.head.kind j.head.n j.head.pin e) (rw e at q.0)
       go (Shape.last e b) q =
           let f : first_of (pin_check j.head.kind j.head.n j.head.pin)
           (low_check j.head.n j.ends.lo) ≡ (Ok tt) =
-          found-fine _ (rw (ap after_n e, b) at q.0) in
+          rw (ap after_n e, b) at q.0 in
           all (fine-first _ _ f) (fine-next _ _ f)
       go (Shape.pinned e b) q =
-          let f : first_of (pin_check j.head.kind j.head.n j.head.pin) Ok tt ≡ (Ok tt) =
-          found-fine _ (rw (ap after_n e, b) at q.0) in
-          all (fine-first _ _ f) (found-fine _ (rw b at q.1).0)
+          let f : first_of (pin_check j.head.kind j.head.n j.head.pin) (Ok tt) ≡ Ok tt =
+          rw (ap after_n e, b) at q.0 in
+          all (fine-first _ _ f) (rw b at q.1).0
 
   fine-passed : LowFine j.head j.ends.lo → Passed job_shows (low_kinds j) j
   unfolding shown_check line_check
-  fine-passed f = (ap found f.number, (refl, (ap found f.unknowns, go (shape j))))
+  fine-passed f = (f.number, (refl, (f.unknowns, go (shape j))))
     where
       go : Shape j → Checks (after_n j.head.kind) × Passed job_shows (cond (pin_written j) (JobLine.Lo ∷ []) []) j
-      go (Shape.plain e b) = rw (e, b) (ap found f.low, tt)
-      go (Shape.last e b) = rw (ap after_n e, b) (ap found (both-fine f.pin f.low), tt)
+      go (Shape.plain e b) = rw (e, b) (f.low, tt)
+      go (Shape.last e b) = rw (ap after_n e, b) (both-fine f.pin f.low, tt)
       go (Shape.pinned e b) =
-          rw (ap after_n e, b) (ap found (both-fine f.pin refl), (ap found f.low, tt))
+          rw (ap after_n e, b) (both-fine f.pin refl, (f.low, tt))
 
 -- ---- jobs that have the same lines so far
 
@@ -129,10 +127,10 @@ module _ (v u : Job) where
     alike_next line check = record {
       lines = alike-lines line ∙ sym (map-append (λ k. job_shows.line k v) ks (k ∷ []));
       passed = λ p. passed-join job_shows u ls (k ∷ []) (a.passed (passed-front job_shows v ks (k ∷ []) p))
-          (ap found check ∙ (passed-rest job_shows v ks (k ∷ []) p).0, tt);
+          (check ∙ (passed-rest job_shows v ks (k ∷ []) p).0, tt);
     }
 
-    pub alike-passed : Passed job_shows ks v → found (shown_check k u) ≡ Ok tt
+    pub alike-passed : Passed job_shows ks v → shown_check k u ≡ Ok tt
         → Passed job_shows (ls ++ (k ∷ [])) u
     alike-passed p e = passed-join job_shows u ls (k ∷ []) (a.passed p) (e, tt)
 

@@ -16,7 +16,6 @@ use Rattle.jobs.specs.declared.Job.{Job}
 use Rattle.jobs.specs.declared.JobLine.{JobLine}
 use Rattle.reading.specs.Shows.{lines_of, before, Passed}
 use Rattle.reading.proofs.Walk.{Tied, passed-join, passed-front, passed-rest}
-use Rattle.lines.specs.Found.{found}
 use Rattle.job_form.specs.JobForm.{after_system, job_end, job_form_of}
 use Rattle.job_form.specs.JobBytes.{head_kinds, box_kinds, system_kinds}
 use Rattle.job_form.specs.JobBytes.{pin_written, job_prior, first_system, shown_check, job_shows}
@@ -46,7 +45,7 @@ kinds-long f (suc m) =
 
 module _ (j : Job) where
   pub passed-each : (m : ℕ) → Passed job_shows (system_kinds m) j → (i : ℕ) → i < m
-      → found (system_check j.head.kind j i) ≡ Ok tt
+      → system_check j.head.kind j i ≡ Ok tt
   unfolding system_kinds shown_check line_check
   passed-each zero p i l = absurd (omega arith)
   passed-each (suc m) p i l =
@@ -57,7 +56,7 @@ module _ (j : Job) where
       let last : i ≡ m = omega arith in
       rw last (passed-rest job_shows j ks (JobLine.System m ∷ []) p).0)
 
-  pub each-passed : (m : ℕ) → ((i : ℕ) → i < m → found (system_check j.head.kind j i) ≡ Ok tt)
+  pub each-passed : (m : ℕ) → ((i : ℕ) → i < m → system_check j.head.kind j i ≡ Ok tt)
       → Passed job_shows (system_kinds m) j
   unfolding system_kinds shown_check line_check
   each-passed zero h = tt

@@ -10,7 +10,6 @@ use Rattle.sizes.specs.Sizes.{n_max}
 use Rattle.lists.specs.Loops.{tab}
 use Rattle.lists.proofs.Tab.{length-tab, tab-none, tab-more, tab-cong}
 use Rattle.text.specs.Words.{row_key}
-use Rattle.faults.specs.declared.Fault.{Fault}
 use Rattle.faults.specs.Checked.{Finding, Found}
 use Rattle.jobs.specs.Places.{no_equation, row_at, equation_at}
 use Rattle.jobs.specs.Zero.{zero_equation, zero_row, zero_body}
@@ -25,8 +24,8 @@ use Rattle.reading.specs.Results.{after, Told}
 use Rattle.reading.specs.NumberLines.{placed}
 use Rattle.term_write.specs.ShowTerms.{equation_text}
 use Rattle.term_round.specs.Live.{live_equation}
-use Rattle.lines.specs.Found.{found}
-use Rattle.lines.specs.Lines.{equation_of, row_of, Sided, live_sided, sided_of}
+use Rattle.lines.specs.Lines.{equation_of, row_of, live_sided, sided_of}
+use Rattle.lines.specs.declared.Sided.{Sided}
 use Rattle.lines.specs.Places.{live_row, live_rows}
 use Rattle.lines.specs.Texts.{row_text, sided_text}
 use Rattle.lines.proofs.Was.{LineWas}
@@ -108,7 +107,7 @@ says_is Kind.Eigen j i l = refl
 
 pub said-back : (k : Kind) (j : Job) (i : ℕ) → 0 < j.head.n → j.head.n ≤ n_max → SpelledLine k j i
     → said_of k j.head.n (system_text k j i)
-    ≡ after (found (system_check k j i)) (λ u. said_live k j.head.n (said_at k j.system i))
+    ≡ after (system_check k j i) (λ u. said_live k j.head.n (said_at k j.system i))
 unfolding system_text system_check
 said-back Kind.Poly j i some few s = equation-back j.head.n few (equation_at j.system.eqs i) s
 said-back Kind.Linear j i some few s =

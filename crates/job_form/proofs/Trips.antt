@@ -1,23 +1,22 @@
 -- The job text, both ways.
 use Prim.Native.Nat.{ℕ, ◌≤◌}
-use native.Mathlib.Omega.{arith}
 use mathlib.Core.Path.{◌≡◌, refl, ap}
 use mathlib.Core.List.{List}
 use mathlib.Core.Logic.{◌↔◌}
 use mathlib.Core.Bool.{Bool, true, false}
 use lib.ListN.{length}
 use Rattle.sizes.specs.Sizes.{text_max}
-use Rattle.faults.specs.declared.Fault.{Fault}
-use Rattle.faults.specs.Checked.{Checked}
+use Rattle.faults.specs.Checked.{status_of}
 use Rattle.checks.specs.Checks.{check_job}
 use Rattle.jobs.specs.declared.Job.{Job}
 use Rattle.jobs.specs.declared.JobLine.{JobLine}
 use Rattle.reading.specs.Lines.{Answer, read}
 use Rattle.reading.specs.Shows.{Passed}
 use Rattle.reading.proofs.Trips.{Laws}
+use Rattle.lines.proofs.Answered.{answer-done}
 use Rattle.lines.proofs.Trips as trips
-use Rattle.lines.specs.Found.{status_of}
-use Rattle.job_form.specs.JobForm.{job_form_of, job_answer, read_job}
+use Rattle.lines.specs.Answered.{answered}
+use Rattle.job_form.specs.JobForm.{job_form_of, read_job}
 use Rattle.job_form.specs.JobBytes.{pin_written, job_prior, job_shows, job_bytes, Spelled}
 use Rattle.job_form.specs.Live.{live}
 use Rattle.job_form.proofs.Order.{ends, counted, tied}
@@ -44,7 +43,7 @@ laws = record {
 }
 
 pub same-order : (j : Job) → Spelled j → length (job_bytes j) ≤ text_max
-    → status_of (read job_form_of (job_bytes j)) ≡ check_job j
+    → status_of (answered (read job_form_of (job_bytes j))) ≡ check_job j
 same-order j s h = trips.same-order job_form_of job_shows Has Spelt laws check_job judged-status j spelt h
   where
     pin : (b : Bool) → SpeltPin b j
@@ -76,21 +75,13 @@ job-short j e = passed-short j (checked-passed j e)
 pub read-write : (j : Job) → check_job j ≡ Ok tt
     → read_job (job_bytes j) ≡ Ok (live j)
 unfolding read_job
-read-write j e = ap job_answer (trips.read-write job_form_of job_shows Has Spelt laws check_job judged-status j e)
+read-write j e = ap answered (trips.read-write job_form_of job_shows Has Spelt laws check_job judged-status j e)
 
 -- "Text to values to text gives the same bytes": a text is read without fault exactly where it is the bytes of a job
 -- that has none and is zero in its dead places
 pub exactly : (t : List ℕ) (j : Job)
     → (read job_form_of t ≡ Answer.done j) ↔ ((job_bytes j ≡ t) × (check_job j ≡ Ok tt) × (live j ≡ j))
 exactly = trips.exactly job_form_of job_shows Has Spelt laws check_job judged-status
-
-pub answer-done : (a : Answer Fault Job) (j : Job) → job_answer a ≡ Ok j
-    → a ≡ Answer.done j
-answer-done (Answer.done x) j e = ap (λ (r : Checked Job). Answer.done r.job) e
-answer-done (Answer.refused f n) j e =
-    let status = ap (λ (r : Checked Job). r.status) e in
-    let z : ◌≡◌ {A = ℕ} 0 1 = cc in
-    absurd (omega arith)
 
 -- what the reader takes, the writer takes, and writes as it stood
 pub write_read : (t : List ℕ) (j : Job) → read_job t ≡ Ok j

@@ -11,8 +11,9 @@ use Rattle.reading.specs.Lines.{Next, Form, read}
 use Rattle.jobs.specs.declared.Job.{Job}
 use Rattle.jobs.specs.declared.JobLine.{JobLine}
 use Rattle.jobs.specs.Parts.{with_unknowns}
+use Rattle.lines.specs.Answered.{answered}
 use Rattle.lines.specs.Lines.{unknowns_of}
-use Rattle.job_form.specs.JobForm.{job_says, job_form_of, job_answer}
+use Rattle.job_form.specs.JobForm.{job_says, job_form_of}
 use Rattle.faults.specs.Checked.{Found, Checked}
 
 -- "Order: job, kind, n, lo, hi, inv, steps, then n lines."
@@ -40,8 +41,8 @@ form_before = record {
   odd = job_form_of.odd;
 }
 
-unfoldable pub read_before : List ℕ → (Checked Job)
-read_before t = job_answer (read form_before t)
+unfoldable pub read_before : List ℕ → Checked Job
+read_before t = answered (read form_before t)
 
 -- a text without a pin line: its fourth line, if it has one, begins otherwise
 pub record Unpinned (t : List ℕ) : Type 0 where

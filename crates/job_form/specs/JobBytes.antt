@@ -18,7 +18,6 @@ use Rattle.checks.specs.Checks.{line_check}
 use Rattle.jobs.specs.declared.Kind.{Kind}
 use Rattle.jobs.specs.declared.Job.{Job}
 use Rattle.jobs.specs.declared.JobLine.{JobLine}
-use Rattle.lines.specs.Found.{found}
 use Rattle.lines.specs.Texts.{count_text, kind_text, row_text, matrix_list, inverse_text, sided_text}
 use Rattle.job_form.specs.JobForm.{after_system}
 use Rattle.job_form.specs.Live.{job_upto}
@@ -121,7 +120,7 @@ job_shows = record {
   prior = job_prior;
   next = job_next;
   end = JobLine.End;
-  check = λ k j. found (shown_check k j);
+  check = shown_check;
   upto = job_upto;
 }
 

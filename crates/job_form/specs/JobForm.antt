@@ -1,21 +1,23 @@
 -- What a job text means: document 01, "The job text and the result text". "Order: job, kind, n, lo, hi, inv, steps,
 -- then n lines." Document 02, P2: a line `pin=` after `n`. What each kind of line says stands in crate lines, its
 -- number in crate jobs.
-use Rattle.std.specs.Prelude.{ℕ, ◌+◌, List, Bool, true, false, cond, ltb, Ok}
+use Rattle.std.specs.Prelude.{ℕ, ◌+◌, List, Bool, true, false, cond, ltb}
 use Rattle.sizes.specs.Sizes.{text_max}
 use Rattle.text.specs.Keys.{starts_with}
 use Rattle.text.specs.Words.{pin_key}
 use Rattle.faults.specs.declared.Fault.{Fault}
-use Rattle.faults.specs.Checked.{Status, Found, Checked, refused}
+use Rattle.faults.specs.Checked.{Found, Checked}
 use Rattle.reading.specs.Results.{after}
-use Rattle.reading.specs.Lines.{Next, Form, Answer, read}
+use Rattle.reading.specs.Lines.{Next, Form, read}
 use Rattle.jobs.specs.declared.Kind.{Kind}
 use Rattle.jobs.specs.declared.Job.{Job}
 use Rattle.jobs.specs.declared.JobLine.{JobLine}
 use Rattle.jobs.specs.Lines.{after_n, job_number}
 use Rattle.jobs.specs.Zero.{no_job}
+use Rattle.lines.specs.Answered.{answered}
 use Rattle.lines.specs.Lines.{number_of, kind_of, unknowns_of, pin_of, low_of, high_of, inverse_of, steps_of}
-use Rattle.lines.specs.Lines.{equation_of, row_of, Sided, sided_of, misspelled}
+use Rattle.lines.specs.Lines.{equation_of, row_of, sided_of, misspelled}
+use Rattle.lines.specs.declared.Sided.{Sided}
 use Rattle.jobs.specs.Parts.{with_number, with_kind, with_unknowns, with_pin, with_lo, with_hi, with_inverse}
 use Rattle.jobs.specs.Parts.{with_steps}
 use Rattle.jobs.specs.Parts.{with_equation, with_row, with_side}
@@ -79,13 +81,5 @@ job_form_of = record {
   odd = Fault.Spelling;
 }
 
--- "everything is zero beside a fault"
-abbrev pub refused_with : Status → (Checked Job)
-refused_with st = record { status = st; job = no_job }
-
-abbrev pub job_answer : Answer Fault Job → (Checked Job)
-job_answer (Answer.done j) = Ok j
-job_answer (Answer.refused f n) = refused f n
-
-unfoldable pub read_job : List ℕ → (Checked Job)
-read_job t = job_answer (read job_form_of t)
+unfoldable pub read_job : List ℕ → Checked Job
+read_job t = answered (read job_form_of t)
