@@ -127,7 +127,9 @@ module _ {L X : Type 0} (form : Form Fault L X) (t : List ℕ) where
 
       pub read-done : length t ≤ y.next → read form t ≡ Answer.done (value y.value)
       read-done h =
-          to_end ∙ end-done form t (kind y.value) (value y.value) y.next p.goes.inside last (omega (arith, p.goes.inside))
+          to_end
+          ∙ end-done form t (kind y.value) (value y.value) y.next p.goes.inside last
+          (omega (arith, p.goes.inside))
 
       -- "bytes after the last line are an extra line"
       pub read-extra : y.next < length t
