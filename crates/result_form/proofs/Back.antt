@@ -18,8 +18,6 @@ use Rattle.text.specs.Words.{job_key, visit_key, steps_key, lo_key, hi_key}
 use Rattle.jobs.specs.declared.ResultLine.{ResultLine}
 use Rattle.checks.specs.Checks.{number_check, steps_check, high_check}
 use Rattle.checks.specs.CheckResult.{visit_check, counted_check, result_check}
-use Rattle.lines.specs.Found.{found}
-use Rattle.lines.proofs.Found.{found-fine}
 use Rattle.lines.proofs.Words.{verdict-above, verdict-back}
 use Rattle.lines.proofs.Checks.{counted-fine, low_small, high_small, number_spelled, visit-spelled, steps-spelled}
 use Rattle.lines.proofs.Back.{number-back, visit-back, steps_back, any-low-back, high-back}
@@ -49,13 +47,13 @@ pub law : (r : Result) (k : ResultLine) → Has r k → result_end k ≡ false
     → Law result_form_of result_shows r (Has r) (Spelt r) k
 unfolding result_says result_check after
 law r ResultLine.Number h o = record {
-  says = λ s. rw (number-back r.number s) (after-after (found (number_check r.number)) _ _);
-  spelt = λ e. number_spelled r.number (found-fine _ e);
+  says = λ s. rw (number-back r.number s) (after-after (number_check r.number) _ _);
+  spelt = λ e. number_spelled r.number e;
   has = λ e. tt;
 }
 law r ResultLine.Visit h o = record {
-  says = λ s. rw (visit-back r.visit s) (after-after (found (visit_check r.visit)) _ _);
-  spelt = λ e. visit-spelled r.visit (found-fine _ e);
+  says = λ s. rw (visit-back r.visit s) (after-after (visit_check r.visit) _ _);
+  spelt = λ e. visit-spelled r.visit e;
   has = λ e. tt;
 }
 law r ResultLine.Verdict h o = record {
@@ -64,20 +62,20 @@ law r ResultLine.Verdict h o = record {
   has = λ e. tt;
 }
 law r ResultLine.Steps h o = record {
-  says = λ s. rw (steps_back r.steps s) (after-after (found (steps_check r.steps)) _ _);
-  spelt = λ e. steps-spelled r.steps (found-fine _ e);
+  says = λ s. rw (steps_back r.steps s) (after-after (steps_check r.steps) _ _);
+  spelt = λ e. steps-spelled r.steps e;
   has = λ e. tt;
 }
 law r ResultLine.Lo h o = record {
-  says = λ s. rw (any-low-back r.n r.lo s) (after-after (found (counted_check r.n r.lo)) _ _);
-  spelt = λ e. low_small r.n r.lo (counted-fine r.n r.lo (found-fine _ e)).1;
-  has = λ e. (counted-fine r.n r.lo (found-fine _ e)).0;
+  says = λ s. rw (any-low-back r.n r.lo s) (after-after (counted_check r.n r.lo) _ _);
+  spelt = λ e. low_small r.n r.lo (counted-fine r.n r.lo e).1;
+  has = λ e. (counted-fine r.n r.lo e).0;
 }
 law r ResultLine.Hi h o = record {
   says = λ s.
       rw (high-back r.n h.0 h.1 r.lo r.hi s)
-      (after-after (found (high_check r.n r.lo r.hi)) _ _);
-  spelt = λ e. high_small r.n r.hi r.lo (found-fine _ e);
+      (after-after (high_check r.n r.lo r.hi) _ _);
+  spelt = λ e. high_small r.n r.hi r.lo e;
   has = λ e. tt;
 }
 law r ResultLine.End h o = absurd (true≢false o)

@@ -22,7 +22,6 @@ use Rattle.result_form.specs.ResultForm.{with_number, with_visit, with_verdict, 
 use Rattle.result_form.specs.ResultForm.{with_low, with_high, result_says, result_end}
 use Rattle.result_form.specs.ResultShows.{result_shows}
 use Rattle.result_form.proofs.Back.{Has}
-use Rattle.lines.proofs.Found.{found-fine}
 use Rattle.lines.proofs.Was.{number-told, visit-told, steps-told}
 use Rattle.lines.proofs.Told.{high-told}
 use Rattle.lines.proofs.Words.{verdict-told}
@@ -69,7 +68,7 @@ grows ResultLine.Steps v l o p h =
     })
 grows ResultLine.Lo v l o p h =
     told-after _ _ (told-passing _ _ (list-line-told Fault.Spelling lo_key l n_max (omega arith))) (λ x e.
-    let size = (counted-fine x.count x.row (found-fine _ e.1)).0 in
+    let size = (counted-fine x.count x.row e.1).0 in
     record {
       lines = line_same result_shows ResultLine.Lo v (e.0.shown size.1);
       kept = record {

@@ -20,17 +20,16 @@ use Rattle.lines.proofs.Trips as trips
 use Rattle.writing.specs.Wrote
 use Rattle.writing.proofs.Lines.{count-line-short, list-line-short, end-length, end_none}
 use Rattle.lists.proofs.Tab.{length-tab}
-use Rattle.faults.specs.declared.Fault.{Fault}
-use Rattle.faults.specs.Checked.{Checked}
+use Rattle.faults.specs.Checked.{status_of}
 use Rattle.jobs.specs.declared.ResultLine.{ResultLine}
 use Rattle.jobs.specs.Lines.{result_number}
 use Rattle.checks.specs.CheckResult.{result_check, result_line_status, check_result}
 use Rattle.text.specs.Words.{job_key, visit_key, steps_key, lo_key, hi_key}
-use Rattle.lines.specs.Found.{status_of}
+use Rattle.lines.specs.Answered.{answered}
 use Rattle.lines.specs.Texts.{verdict_text}
-use Rattle.lines.proofs.Found.{found-fine, status-then, status-last}
+use Rattle.lines.proofs.Answered.{status-then, status-last, answer-done}
 use Rattle.lines.proofs.Checks.{counted-fine}
-use Rattle.result_form.specs.ResultForm.{result_end, result_form_of, result_answer, read_result}
+use Rattle.result_form.specs.ResultForm.{result_end, result_form_of, read_result}
 use Rattle.result_form.specs.ResultShows.{kinds, result_shows, show_result, Spelled}
 use Rattle.result_form.proofs.Grows.{grows}
 use Rattle.result_form.proofs.Back.{Has, Spelt, law, plain}
@@ -103,11 +102,11 @@ laws = record {
       Tied.one refl (Tied.one refl (Tied.one refl (Tied.one refl (Tied.one refl (Tied.one refl Tied.none)))));
   law = law;
   plain = plain;
-  short = λ r p. result-short r (counted-fine r.n r.lo (found-fine _ p.1.1.1.1.0)).0.1;
+  short = λ r p. result-short r (counted-fine r.n r.lo p.1.1.1.1.0).0.1;
 }
 
 -- "Values handed over without text get the same checks in the same line order"
-judged-status : (r : Result) → status_of (judged result_form_of result_shows r) ≡ check_result r
+judged-status : (r : Result) → status_of (answered (judged result_form_of result_shows r)) ≡ check_result r
 unfolding check_result result_line_status findings
 judged-status r =
     status-then (result_check ResultLine.Number r) _ _ _
@@ -118,7 +117,7 @@ judged-status r =
     (status-last (result_check ResultLine.Hi r) _ (live result_shows r))))))
 
 pub same-order : (r : Result) → Spelled r → length (show_result r) ≤ text_max
-    → status_of (read result_form_of (show_result r)) ≡ check_result r
+    → status_of (answered (read result_form_of (show_result r))) ≡ check_result r
 same-order r s h = trips.same-order result_form_of result_shows Has Spelt laws check_result judged-status r spelt h
   where
     spelt : (k : ResultLine) → Has r k → Spelt r k
@@ -137,7 +136,7 @@ checked-passed = trips.done-passed result_form_of result_shows Has Spelt laws ch
 pub read-write : (r : Result) → check_result r ≡ Ok tt
     → read_result (show_result r) ≡ Ok (live result_shows r)
 unfolding read_result
-read-write r e = ap result_answer (trips.read-write result_form_of result_shows Has Spelt laws check_result
+read-write r e = ap answered (trips.read-write result_form_of result_shows Has Spelt laws check_result
     judged-status r e)
 
 -- "Text to values to text gives the same bytes": a text is read without fault exactly where it is the bytes of a result
@@ -146,14 +145,6 @@ pub exactly : (t : List ℕ) (r : Result)
     → (read result_form_of t ≡ Answer.done r)
     ↔ ((show_result r ≡ t) × (check_result r ≡ Ok tt) × (live result_shows r ≡ r))
 exactly = trips.exactly result_form_of result_shows Has Spelt laws check_result judged-status
-
-answer-done : (a : Answer Fault Result) (r : Result) → result_answer a ≡ Ok r
-    → a ≡ Answer.done r
-answer-done (Answer.done x) r e = ap (λ (y : Checked Result). Answer.done y.result) e
-answer-done (Answer.refused f n) r e =
-    let status = ap (λ (y : Checked Result). y.status) e in
-    let z : ◌≡◌ {A = ℕ} 0 1 = cc in
-    absurd (omega arith)
 
 -- what the reader takes, the writer takes, and writes as it stood
 pub write_read : (t : List ℕ) (r : Result) → read_result t ≡ Ok r

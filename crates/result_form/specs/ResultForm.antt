@@ -1,17 +1,18 @@
 -- What a result text means: document 01, "The job text and the result text". What each kind of line says stands in
 -- crate lines, its number in crate jobs.
-use Rattle.std.specs.Prelude.{ℕ, List, Bool, true, false, ℤ, Ok}
+use Rattle.std.specs.Prelude.{ℕ, List, Bool, true, false, ℤ}
 use Rattle.sizes.specs.Sizes.{text_max}
 use Rattle.faults.specs.declared.Fault.{Fault}
-use Rattle.faults.specs.Checked.{Found, Checked, refused}
+use Rattle.faults.specs.Checked.{Found, Checked}
 use Rattle.jobs.specs.Zero.{no_result}
 use Rattle.jobs.specs.Lines.{result_number}
 use Rattle.jobs.specs.declared.Result.{Result}
 use Rattle.jobs.specs.declared.ResultLine.{ResultLine}
 use Rattle.jobs.specs.declared.Verdict.{Verdict}
 use Rattle.reading.specs.Results.{after}
-use Rattle.reading.specs.Lines.{Next, Form, Answer, read}
-use Rattle.reading.specs.NumberLines.{Listed}
+use Rattle.reading.specs.Lines.{Next, Form, read}
+use Rattle.reading.specs.declared.Listed.{Listed}
+use Rattle.lines.specs.Answered.{answered}
 use Rattle.lines.specs.Lines.{number_of, visit_of, verdict_of, steps_of, any_low_of, high_of, misspelled}
 
 -- ---- the lines in their order, and what each leaves
@@ -115,10 +116,5 @@ result_form_of = record {
   odd = Fault.Spelling;
 }
 
--- the answer: "everything is zero beside a fault"
-abbrev pub result_answer : Answer Fault Result → (Checked Result)
-result_answer (Answer.done r) = Ok r
-result_answer (Answer.refused f n) = refused f n
-
-unfoldable pub read_result : List ℕ → (Checked Result)
-read_result t = result_answer (read result_form_of t)
+unfoldable pub read_result : List ℕ → Checked Result
+read_result t = answered (read result_form_of t)

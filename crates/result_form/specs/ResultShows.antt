@@ -14,7 +14,6 @@ use Rattle.jobs.specs.Lines.{result_number}
 use Rattle.checks.specs.CheckResult.{result_check}
 use Rattle.text.specs.Words.{job_key, visit_key, steps_key, lo_key, hi_key}
 use Rattle.lines.specs.Texts.{count_text, verdict_text, row_text}
-use Rattle.lines.specs.Found.{found}
 use Rattle.result_form.specs.ResultForm.{with_number, with_visit, with_verdict, with_steps, with_low, with_high}
 
 abbrev pub line : ResultLine → Result → List ℕ
@@ -75,7 +74,7 @@ result_shows = record {
   prior = λ k r. take (result_number k - 1) kinds;
   next = λ k r. next k;
   end = ResultLine.End;
-  check = λ k r. found (result_check k r);
+  check = result_check;
   upto = upto;
 }
 
