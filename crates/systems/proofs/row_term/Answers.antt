@@ -17,10 +17,10 @@ returns-then-t-n c =
     same-term (back f ∙ sym (row-entry _ (number_at c.args.row) c.args.b _ c.if-t-n.true)) refl
 
 pub overflow_sub-result : goal.overflow_sub-result
-overflow_sub-result c = simp (to_z-of_z, c.ranges.b, +ℤ_idl) (fits (within-neg c.requires.within) tt)
+overflow_sub-result c = simp (to_z-of_z, c.ranges.b, +ℤ_idl) (fits (within-neg c.requires.b_in) tt)
 
 pub returns : goal.returns
 returns c =
-    let f : SFits w64 (neg_ℤ c.args.b) = fits (within-neg c.requires.within) tt in
+    let f : SFits w64 (neg_ℤ c.args.b) = fits (within-neg c.requires.b_in) tt in
     same-term (simp (to_z-of_z, c.ranges.b, +ℤ_idl, f)
     (sym (row_last _ (number_at c.args.row) c.args.b _ c.if-t-n.false))) refl
