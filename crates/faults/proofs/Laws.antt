@@ -7,6 +7,7 @@ use native.Mathlib.Nat.{not-suc-le-zero, le_of_suc-le-suc, le_antisymm, eq-or-lt
 use native.Mathlib.Numerals.{add-one}
 use native.Mathlib.Omega.{arith}
 use Rattle.faults.specs.declared.Fault.{Fault}
+use Rattle.faults.specs.declared.Refusal.{Refusal}
 use Rattle.faults.specs.Checked.{Finding, Checked, Status, status_of, value_or}
 use Rattle.faults.specs.Checks.{is_fine, bad_unless, first_of, on_line, is_bad, and_then, lines_of}
 use Rattle.std.specs.Prelude.{Ok, Err}
@@ -103,6 +104,27 @@ pub both-done : {s t : Status} → s ≡ Ok tt → t ≡ Ok tt → and_then s t 
 both-done {s} {t} h e = good-first s t h ∙ e
 
 -- ---- a value, or what refuses it
+pub status-then : {A : Type 0} (s : Status) (x : A) → status_of (and_then s (Ok x)) ≡ s
+unfolding and_then
+status-then (Ok tt) x = refl
+status-then (Err r) x = refl
+
+-- what an answer says of the checks before its value
+pub then-done : {A : Type 0} (s : Status) (x : A) {y : A} → and_then s (Ok x) ≡ Ok y → s ≡ Ok tt
+unfolding and_then
+then-done (Ok tt) x e = refl
+then-done (Err r) x e = absurd (zero_one (cc))
+
+pub then-value : {A : Type 0} (s : Status) (x : A) {y : A} → and_then s (Ok x) ≡ Ok y → y ≡ x
+unfolding and_then
+then-value (Ok tt) x e = cc
+then-value (Err r) x e = absurd (zero_one (cc))
+
+pub then-refused : {A : Type 0} (s : Status) (x : A) {r : Refusal} → and_then s (Ok x) ≡ Err r → s ≡ Err r
+unfolding and_then
+then-refused (Ok tt) x e = absurd (zero_one (cc))
+then-refused (Err q) x e = cc
+
 pub done-value : {A : Type 0} (none : A) (r : Checked A) → status_of r ≡ Ok tt → r ≡ Ok (value_or none r)
 done-value none (Ok x) e = refl
 done-value none (Err r) e = absurd (zero_one (cc))
