@@ -35,10 +35,8 @@ fn put_head(buf: &mut [u8], at: usize, j: Job) -> usize
     requires { at + length (lines_bytes j head_kinds) ≤ text_max }
     ensures { Wrote buf.old buf.new at result (lines_bytes j head_kinds) }
 {
-    let head = j.head;
-    let kind = head.kind;
     let a = put_count_line(buf, at, b"job=", j.head.number);
-    let b = put_kind_line(buf, a, kind);
+    let b = put_kind_line(buf, a, j.head.kind);
     put_count_line(buf, b, b"n=", j.head.n as u64)
 }
 
@@ -58,12 +56,9 @@ fn put_body(buf: &mut [u8], at: usize, j: Job) -> usize
     ensures { Wrote buf.old buf.new at result (lines_bytes j body_kinds) }
 {
     let n = j.head.n;
-    let lo = j.ends.lo;
-    let hi = j.ends.hi;
-    let inv = j.inv;
-    let a = put_row_line(buf, at, b"lo=", lo, n, DIGITS);
-    let b = put_row_line(buf, a, b"hi=", hi, n, DIGITS);
-    let c = put_inverse_line(buf, b, inv, n);
+    let a = put_row_line(buf, at, b"lo=", j.ends.lo, n, DIGITS);
+    let b = put_row_line(buf, a, b"hi=", j.ends.hi, n, DIGITS);
+    let c = put_inverse_line(buf, b, j.inv, n);
     put_count_line(buf, c, b"steps=", j.steps)
 }
 

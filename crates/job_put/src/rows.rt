@@ -18,12 +18,9 @@ fn entries(rows: [Row; N], n: usize) -> [i64; PLACES]
     requires { (1 ≤ n) × (n ≤ n_max) }
     ensures { result ≡ tab places_max (n * n) (pos 0) (entry_of rows n) }
 {
-    let m = n * n;
     let mut all = [0; PLACES];
-    for k in 0..m {
-        let row = rows[k / n];
-        let xs = row.at;
-        all[k] = xs[k % n];
+    for k in 0..n * n {
+        all[k] = rows[k / n].at[k % n];
     }
     all
 }

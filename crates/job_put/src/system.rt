@@ -14,25 +14,10 @@ fn put_system_line(buf: &mut [u8], at: usize, j: Job, i: usize) -> usize
     ensures { Wrote buf.old buf.new at result (line (system_text j.head.kind j i)) }
 {
     let n = j.head.n;
-    let head = j.head;
-    let kind = head.kind;
-    let system = j.system;
-    match kind {
-        Kind::Poly => {
-            let q = system.eqs[i];
-            put_equation_line(buf, at, q, n)
-        }
-        Kind::Linear => {
-            let row = system.rows[i];
-            let xs = row.at;
-            let right = system.right;
-            put_sided_line(buf, at, xs, n, right[i])
-        }
-        Kind::Eigen => {
-            let row = system.rows[i];
-            let xs = row.at;
-            put_row_line(buf, at, b"row=", xs, n, DIGITS)
-        }
+    match j.head.kind {
+        Kind::Poly => put_equation_line(buf, at, j.system.eqs[i], n),
+        Kind::Linear => put_sided_line(buf, at, j.system.rows[i].at, n, j.system.right[i]),
+        Kind::Eigen => put_row_line(buf, at, b"row=", j.system.rows[i].at, n, DIGITS),
     }
 }
 
@@ -42,10 +27,8 @@ pub fn put_system(buf: &mut [u8], at: usize, j: Job) -> usize
 {
     let n = j.head.n;
     let mut p = at;
-    let mut i = 0;
-    while i < n {
+    for i in 0..n {
         p = put_system_line(buf, p, j, i);
-        i += 1;
     }
     p
 }

@@ -1,5 +1,4 @@
 -- `job_put::rows::entries` meets its contract.
-use Prim.Native.Nat.{◌-◌, ◌≤◌}
 use mathlib.Core.Path.{◌≡◌}
 use lib.IntN.{pos}
 use Rattle.lists.specs.Loops.{tab}
@@ -8,7 +7,4 @@ use Rattle.lines.specs.Texts.{entry_of}
 use Rattle.job_put.proofs.rows.entries.Given as goal
 
 abbrev pub invariant-loop-k : goal.invariant-loop-k
-invariant-loop-k l = (l.k ≤ l.m) × (l.all ≡ tab places_max l.k (pos 0) (entry_of l.rows l.n))
-
-abbrev pub decreases-loop-k : goal.decreases-loop-k
-decreases-loop-k l = l.m - l.k
+invariant-loop-k l = l.all ≡ tab places_max l.k (pos 0) (entry_of l.rows l.n)

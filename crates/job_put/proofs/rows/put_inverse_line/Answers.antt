@@ -5,15 +5,6 @@ use Rattle.lines.proofs.Rows.{square-fits, matrix-long, matrix-within}
 use Rattle.job_put.proofs.Matrix.{matrix-taken}
 use Rattle.job_put.proofs.rows.put_inverse_line.Goals as goal
 
-pub entries-all-requires : goal.entries-all-requires
-entries-all-requires c = (c.requires.some, c.requires.few)
-
-pub overflow_mul-all : goal.overflow_mul-all
-overflow_mul-all c = omega (arith, square-fits _ c.requires.few)
-
-pub slice_bounds-all-end : goal.slice_bounds-all-end
-slice_bounds-all-end c = omega (arith, square-fits _ c.requires.few)
-
 pub put_list_line-requires : goal.put_list_line-requires
 put_list_line-requires c =
     let rows = c.args.inv in

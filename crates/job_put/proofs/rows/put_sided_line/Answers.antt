@@ -1,9 +1,8 @@
 -- `job_put::rows::put_sided_line` meets its contract.
 use borrow.Author.Rules.{rules}
 use native.Mathlib.Omega.{arith}
-use mathlib.Core.Path.{◌≡◌, sym}
+use mathlib.Core.Path.{◌≡◌}
 use lib.ListN.{length, take, length-take}
-use lib.Seq.{length-take-le}
 use mir.Facts.{to_z-of_z}
 use Rattle.sizes.specs.Sizes.{n_max, entry_max}
 use Rattle.digits.specs.Number.{digits_max}
@@ -14,14 +13,6 @@ use Rattle.writing.proofs.Wrote.{wrote-append, wrote_as}
 use Rattle.lines.proofs.Checks.{within-below}
 use Rattle.job_put.proofs.Matrix.{sided-parts}
 use Rattle.job_put.proofs.rows.put_sided_line.Goals as goal
-
-pub put_bytes-a-requires : goal.put_bytes-a-requires
-put_bytes-a-requires c = omega (arith, c.requires.room)
-
-pub slice_bounds-put_list-end : goal.slice_bounds-put_list-end
-slice_bounds-put_list-end c =
-    let long : length c.args.row ≡ n_max = search rules in
-    sym (length-take-le c.args.n c.args.row (omega (arith, c.requires.few)))
 
 pub put_list-b-requires : goal.put_list-b-requires
 put_list-b-requires c =
