@@ -1,143 +1,199 @@
--- What the lines that hold a list are spelled as, before their values are checked.
+-- What the lines that hold a list say, before their values are checked.
 use Prim.Native.Nat.{ℕ}
-use mathlib.Core.Path.{◌≡◌, refl, ap, fun_ext}
+use mathlib.Core.Path.{◌≡◌, refl, sym, ap, ◌∙◌, fun_ext}
 use mathlib.Core.List.{List}
-use mathlib.Core.Bool.{Bool, true, false, cond, not}
+use mathlib.Core.Bool.{Bool, true, false, cond, not, true≢false, false≢true}
 use lib.ListN.{length, take}
 use lib.Dec.{eqb}
 use lib.IntN.{ℤ}
+use borrow.Author.Tests.{eq-eqb, ne_eqb}
 use Rattle.faults.specs.declared.Fault.{Fault}
-use Rattle.faults.specs.Checked.{Finding, Found}
+use Rattle.faults.specs.Checked.{Found}
 use Rattle.faults.specs.Checks.{bad_unless, first_of}
 use Rattle.jobs.specs.declared.Equation.{Equation}
 use Rattle.checks.specs.Checks.{equation_check}
 use Rattle.term_checks.specs.Terms.{good_terms}
-use Rattle.text.specs.declared.Numbers.{Numbers}
-use Rattle.term_text.specs.declared.Terms.{Terms}
-use Rattle.term_text.specs.Terms.{read_equation}
+use Rattle.text.specs.Lists.{Numbers}
+use Rattle.term_text.specs.Terms.{Terms, read_equation}
 use Rattle.reading.specs.Results.{after, passing, refuse}
 use Rattle.reading.specs.Places.{line_end, line_at}
-use Rattle.reading.specs.NumberLines as numbers
+use Rattle.reading.specs.declared.Listed.{Listed}
 use Rattle.reading.specs.NumberLines.{listed, list_line, rowed, row_line}
 use Rattle.reading.proofs.Ends.{line_after}
-use Rattle.scan.specs.declared.ListAt.{ListAt}
+use Rattle.reading.proofs.Told.{fault-got}
+use Rattle.scan.specs.declared.At.{At}
 use Rattle.scan.specs.Lines.{line_of, ended_and, list_at_of, places_of, ListFrom}
 use Rattle.scan.specs.Lines as scan
-use Rattle.term_read.specs.declared.TermsAt.{TermsAt}
+use Rattle.term_read.specs.declared.Terms.{Terms as Taken}
 use Rattle.term_read.specs.Lines.{TermsOf, TermsFrom}
 use Rattle.term_read.proofs.Near.{near-coefs}
-use Rattle.lines.specs.Found.{found}
 use Rattle.lines.specs.Lines.{misspelled, numbers_of, terms_by, equation_of}
-use Rattle.line_read.specs.At.{said, onward}
-use Rattle.line_read.specs.Spells.{Spells}
-use Rattle.line_read.proofs.Checked.{spells-bad, spells-fine, odd-line}
-use Rattle.list_read.specs.Found.{count_found, terms_is, terms_found}
-use Rattle.std.specs.Prelude.{Ok, Err}
+use Rattle.line_read.specs.At.{said, onward, line_from}
+use Rattle.line_read.proofs.Checked.{odd-line}
+use Rattle.std.specs.Prelude.{Some, None, Ok, Err}
 
-module _ {key t : List ℕ} {a : ℕ} {r : ListAt} {old vals : List ℤ} (w : ListFrom key t a r old vals) where
-  abbrev k : ℕ
-  k = length old
+some-none : {A B : Type 0} {x : A} → Some x ≡ None → B
+some-none e = absurd (let z : ◌≡◌ {A = Bool} true false = cc in true≢false z)
 
+-- ---- numbers
+
+-- the line that begins at a, after its key: m places for its numbers
+module _ (key t : List ℕ) (a m : ℕ) where
   abbrev those : Numbers
   those = scan.numbers_at key t a
 
-  pub row-spells : (n : ℕ) → Spells (said (numbers_of key k n) t a) (onward t a) (count_found r n) r.next vals
-  unfolding line_at row_line rowed count_found list_at_of places_of first_of bad_unless
-  row-spells n = rw odd-line (go (ended_and t a those.ok) w.answer w.places)
-    where
-      counts : (c : Bool) → eqb those.count n ≡ c → r ≡ list_at_of true those (line_end t a)
-          → vals ≡ places_of true those k
-          → Spells (refuse (not c) Fault.Spelling (Ok (take k those.vals))) (onward t a) (count_found r n)
-          r.next vals
-      counts true z p q = rw (p, z) (spells-fine _ refl q refl)
-      counts false z p q = rw (p, z) (spells-bad Fault.Spelling refl)
+  abbrev Row : ℕ → Found (At (List ℤ)) → Type 0
+  Row n r = r ≡ line_from (said (numbers_of key m n) t a) (onward t a)
 
-      go : (b : Bool) → r ≡ list_at_of b those (line_end t a) → vals ≡ places_of b those k
-          → Spells
-          (cond b (refuse (not (eqb those.count n)) Fault.Spelling (Ok (take k those.vals))) misspelled)
-          (onward t a) (count_found r n) r.next vals
-      go true p q = counts (eqb those.count n) refl p q
-      go false p q = rw p (spells-bad Fault.Spelling refl)
+  abbrev Any : Found (At Listed) → Type 0
+  Any r = r ≡ line_from {A = Listed} (said (list_line Fault.Spelling key m) t a) (onward t a)
 
-  pub list-spells : Spells {A = numbers.Listed} (said (list_line Fault.Spelling key k) t a) (onward t a)
-      (bad_unless r.ok Fault.Spelling)
-      r.next (record { count = r.count; row = vals })
-  unfolding line_at list_line listed list_at_of places_of bad_unless
-  list-spells = rw odd-line (go (ended_and t a those.ok) w.answer w.places)
-    where
-      go : (b : Bool) → r ≡ list_at_of b those (line_end t a) → vals ≡ places_of b those k
-          → Spells {A = numbers.Listed}
-          (cond b (Ok (record { count = those.count; row = take k those.vals })) misspelled)
-          (onward t a) (bad_unless r.ok Fault.Spelling) r.next (record { count = r.count; row = vals })
-      go true p q = rw (p, q) (spells-fine _ refl refl refl)
-      go false p q = rw p (spells-bad Fault.Spelling refl)
+  module _ {old vals : List ℤ} (l : length old ≡ m) {y : At ℕ} (w : ListFrom key t a (Some y) old vals) where
+    module _ (n : ℕ) where
+      pub row-line-yes : y.value ≡ n → Row n (Ok (record { value = vals; next = y.next }))
+      unfolding line_at row_line rowed list_at_of places_of
+      row-line-yes e = rw odd-line (go (ended_and t a those.ok) w.answer (rw l at w.places))
+        where
+          go : (b : Bool) → Some y ≡ list_at_of b those (line_end t a) → vals ≡ places_of b those m
+              → Ok (record { value = vals; next = y.next })
+              ≡ line_from (cond b (refuse (not (eqb those.count n)) Fault.Spelling (Ok (take m those.vals))) misspelled)
+              (onward t a)
+          go true p q =
+              let z : y ≡ record { value = those.count; next = onward t a } = cc in
+              rw (eq-eqb those.count n (ap (λ (v : At ℕ). v.value) (sym z) ∙ e), ← q, z) refl
+          go false p q = some-none p
 
-spells-after : {A B : Type 0} (g : Found A) (h : A → B) {b next : ℕ} {s : Finding} {v : A} → Spells g b s next v
-    → Spells (after g h) b s next (h v)
-unfolding after
-spells-after (Ok x) h p = let q = p.fine x refl in spells-fine (h x) q.0 (ap h q.1) q.2
-spells-after (Err f) h p = spells-bad f (p.bad f refl)
+      pub row-line-no : (y.value ≡ n → ⊥) → Row n (Err Fault.Spelling)
+      unfolding line_at row_line rowed list_at_of places_of
+      row-line-no o = rw odd-line (go (ended_and t a those.ok) w.answer)
+        where
+          go : (b : Bool) → Some y ≡ list_at_of b those (line_end t a)
+              → Err Fault.Spelling
+              ≡ line_from (cond b (refuse (not (eqb those.count n)) Fault.Spelling (Ok (take m those.vals))) misspelled)
+              (onward t a)
+          go true p =
+              let z : y ≡ record { value = those.count; next = onward t a } = cc in
+              rw (ne_eqb those.count n (λ e. o (ap (λ (v : At ℕ). v.value) z ∙ e))) refl
+          go false p = some-none p
+
+    pub list-line-yes : Any (Ok (record { value = record { count = y.value; row = vals }; next = y.next }))
+    unfolding line_at list_line listed list_at_of places_of
+    list-line-yes = rw odd-line (go (ended_and t a those.ok) w.answer (rw l at w.places))
+      where
+        go : (b : Bool) → Some y ≡ list_at_of b those (line_end t a) → vals ≡ places_of b those m
+            → Ok (record { value = record { count = y.value; row = vals }; next = y.next })
+            ≡ line_from {A = Listed} (cond b (Ok (record { count = those.count; row = take m those.vals })) misspelled)
+            (onward t a)
+        go true p q =
+            let z : y ≡ record { value = those.count; next = onward t a } = cc in
+            rw (← q, z) refl
+        go false p q = some-none p
+
+  module _ {old vals : List ℤ} (w : ListFrom key t a None old vals) where
+    pub row-line-none : (n : ℕ) → Row n (Err Fault.Spelling)
+    unfolding line_at row_line rowed list_at_of
+    row-line-none n = rw odd-line (go (ended_and t a those.ok) w.answer)
+      where
+        go : (b : Bool) → None ≡ list_at_of b those (line_end t a)
+            → Err Fault.Spelling
+            ≡ line_from (cond b (refuse (not (eqb those.count n)) Fault.Spelling (Ok (take m those.vals))) misspelled)
+            (onward t a)
+        go true p = some-none (sym p)
+        go false p = refl
+
+    pub list-line-none : Any (Err Fault.Spelling)
+    unfolding line_at list_line listed list_at_of
+    list-line-none = rw odd-line (go (ended_and t a those.ok) w.answer)
+      where
+        go : (b : Bool) → None ≡ list_at_of b those (line_end t a)
+            → Err Fault.Spelling
+            ≡ line_from {A = Listed} (cond b (Ok (record { count = those.count; row = take m those.vals })) misspelled)
+            (onward t a)
+        go true p = some-none (sym p)
+        go false p = refl
 
 -- what is made of a line's value before it is checked
-pub after-spells : {A B : Type 0} (f : List ℕ → Found A) (h : A → B) (t : List ℕ)
-    (a : ℕ) {b next : ℕ} {s : Finding}
-    {v : A} → Spells (said f t a) b s next v
-    → Spells (said (λ l. after (f l) h) t a) b s next (h v)
-after-spells f h t a p = rw (line_after Fault.Spelling f h t a) (spells-after (said f t a) h p)
+module _ {A B : Type 0} (f : List ℕ → Found A) (h : A → B) (t : List ℕ) (a b : ℕ) where
+  pub after-yes : {y : At A} → Ok y ≡ line_from (said f t a) b
+      → Ok (record { value = h y.value; next = y.next }) ≡ line_from (said (λ l. after (f l) h) t a) b
+  unfolding after
+  after-yes {y} w = rw (line_after Fault.Spelling f h t a) (go (said f t a) w)
+    where
+      go : (g : Found A) → Ok y ≡ line_from g b
+          → Ok (record { value = h y.value; next = y.next }) ≡ line_from (after g h) b
+      go (Ok x) p = let z : y ≡ record { value = x; next = b } = cc in rw z refl
+      go (Err d) p = fault-got (sym p)
 
-pub terms-spell : (n : ℕ) (t : List ℕ) (a : ℕ) {r : TermsAt} → TermsFrom (read_equation n) t a r
-    → Spells (said (λ l. terms_is (read_equation n l)) t a) (onward t a) (terms_found r) r.next r.equation
-unfolding line_at terms_is terms_found TermsOf first_of bad_unless
-terms-spell n t a {r} w = rw odd-line (go (ended_and t a those.ok) w.answer)
-  where
-    those : Terms
-    those = read_equation n (line_of t a)
+  pub after-no : {e : Fault} → Err e ≡ line_from (said f t a) b → Err e ≡ line_from (said (λ l. after (f l) h) t a) b
+  unfolding after
+  after-no {e} w = rw (line_after Fault.Spelling f h t a) (go (said f t a) w)
+    where
+      go : (g : Found A) → Err e ≡ line_from g b → Err e ≡ line_from (after g h) b
+      go (Ok x) p = fault-got p
+      go (Err d) p = let z : e ≡ d = cc in rw z refl
 
-    near : (f : Bool) → those.far ≡ f → TermsOf true those (line_end t a) r
-        → Spells (refuse f Fault.Beyond (Ok those.equation)) (onward t a) (terms_found r) r.next
-        r.equation
-    near true z p = rw (p, z) (spells-bad Fault.Beyond refl)
-    near false z p = rw (p, z) (spells-fine _ refl refl refl)
+-- ---- terms
 
-    go : (b : Bool) → TermsOf b those (line_end t a) r
-        → Spells (cond b (refuse those.far Fault.Beyond (Ok those.equation)) misspelled)
-        (onward t a) (terms_found r) r.next r.equation
-    go true p = near those.far refl p
-    go false p = rw p (spells-bad Fault.Spelling refl)
+-- terms, well spelled, with coefficients in their range: their equation before it is checked
+unfoldable pub terms_is : Terms → Found Equation
+terms_is a = refuse (not a.ok) Fault.Spelling (refuse a.far Fault.Beyond (Ok a.equation))
 
--- coefficients in their range need no second look
-pub shape-alone : (n : ℕ) (t : List ℕ) (a : ℕ) {r : TermsAt} → TermsFrom (read_equation n) t a r
-    → first_of (terms_found r) (bad_unless (good_terms r.equation n) Fault.Terms)
-    ≡ first_of (terms_found r) (equation_check n r.equation)
-unfolding terms_found TermsOf first_of bad_unless equation_check
-shape-alone n t a {r} w = go (ended_and t a those.ok) w.answer
-  where
-    those : Terms
-    those = read_equation n (line_of t a)
+module _ (n : ℕ) (t : List ℕ) (a : ℕ) where
+  abbrev terms : Terms
+  terms = read_equation n (line_of t a)
 
-    near : (f : Bool) → those.far ≡ f → TermsOf true those (line_end t a) r
-        → first_of (terms_found r) (bad_unless (good_terms r.equation n) Fault.Terms)
-        ≡ first_of (terms_found r) (equation_check n r.equation)
-    near true z p = rw (p, z)
-    near false z p = rw (p, z, near-coefs n (line_of t a) z)
+  abbrev Line : Found (At Equation) → Type 0
+  Line r = r ≡ line_from (said (λ l. terms_is (read_equation n l)) t a) (onward t a)
 
-    go : (b : Bool) → TermsOf b those (line_end t a) r
-        → first_of (terms_found r) (bad_unless (good_terms r.equation n) Fault.Terms)
-        ≡ first_of (terms_found r) (equation_check n r.equation)
-    go true p = near those.far refl p
-    go false p = rw p
+  pub terms-none : {w : At ℕ} → TermsFrom (read_equation n) t a (Err w) → Line (Err Fault.Spelling)
+  unfolding line_at terms_is TermsOf
+  terms-none {w} r = rw odd-line (go (ended_and t a terms.ok) r.answer)
+    where
+      go : (b : Bool) → TermsOf b terms (line_end t a) (Err w)
+          → Err Fault.Spelling
+          ≡ line_from (cond b (refuse terms.far Fault.Beyond (Ok terms.equation)) misspelled) (onward t a)
+      go true p = fault-got p
+      go false p = refl
+
+  module _ {y : At Taken} (r : TermsFrom (read_equation n) t a (Ok y)) where
+    read-is : (ended_and t a terms.ok ≡ true)
+        × (y ≡ record { value = record { far = terms.far; equation = terms.equation }; next = onward t a })
+    unfolding TermsOf
+    read-is = go (ended_and t a terms.ok) refl r.answer
+      where
+        go : (b : Bool) → ended_and t a terms.ok ≡ b → TermsOf b terms (line_end t a) (Ok y)
+            → (ended_and t a terms.ok ≡ true)
+            × (y ≡ record { value = record { far = terms.far; equation = terms.equation }; next = onward t a })
+        go true e p = (e, cc)
+        go false e p = absurd (false≢true p)
+
+    pub terms-far : y.value.far ≡ true → Line (Err Fault.Beyond)
+    unfolding line_at terms_is
+    terms-far e =
+        let far : terms.far ≡ true = ap (λ (v : At Taken). v.value.far) (sym read-is.1) ∙ e in
+        rw (odd-line, read-is.0, far) refl
+
+    module _ (e : y.value.far ≡ false) where
+      near : terms.far ≡ false
+      near = ap (λ (v : At Taken). v.value.far) (sym read-is.1) ∙ e
+
+      pub terms-near : Line (Ok (record { value = y.value.equation; next = y.next }))
+      unfolding line_at terms_is
+      terms-near = rw (odd-line, read-is.0, near, read-is.1) refl
+
+      -- coefficients in their range need no second look
+      pub shape-alone : equation_check n y.value.equation ≡ bad_unless (good_terms y.value.equation n) Fault.Terms
+      unfolding equation_check first_of bad_unless
+      shape-alone = rw (read-is.1, near-coefs n (line_of t a) near) refl
 
 -- an equation's line is its terms, then their check
-pub equation-is : (n : ℕ) → (λ l. passing (terms_is (read_equation n l)) (λ q. found (equation_check n q)))
-    ≡ equation_of n
+pub equation-is : (n : ℕ) → (λ l. passing (terms_is (read_equation n l)) (equation_check n)) ≡ equation_of n
 unfolding equation_of terms_by terms_is passing after
 equation-is n = fun_ext (λ l. go (read_equation n l).ok (read_equation n l).far (read_equation n l).equation)
   where
     go : (ok far : Bool) (q : Equation)
-        → passing (refuse (not ok) Fault.Spelling (refuse far Fault.Beyond (Ok q)))
-        (λ x. found (equation_check n x))
-        ≡ refuse (not ok) Fault.Spelling
-        (refuse far Fault.Beyond (passing (Ok q) (λ x. found (equation_check n x))))
+        → passing (refuse (not ok) Fault.Spelling (refuse far Fault.Beyond (Ok q))) (equation_check n)
+        ≡ refuse (not ok) Fault.Spelling (refuse far Fault.Beyond (passing (Ok q) (equation_check n)))
     go true true q = refl
     go true false q = refl
     go false true q = refl

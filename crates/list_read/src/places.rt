@@ -1,5 +1,5 @@
 // From the numbers of a line to the places of a job.
-ghost use Rattle.std.specs.Prelude.{◌≡◌, ◌+◌, ◌≤◌, get_or, pos};
+ghost use Rattle.std.specs.Prelude.{◌≡◌, ◌+◌, ◌≤◌};
 ghost use Rattle.sizes.specs.Sizes.{n_max};
 ghost use Rattle.text.specs.Lists.{places_max};
 ghost use Rattle.lines.specs.Places.{cells, rows_of};
@@ -15,29 +15,17 @@ pub fn cells_of(vals: &[i64; PLACES], from: usize, n: usize) -> [i64; N]
     ensures { result ≡ cells vals.now from n }
 {
     let mut row = [0; N];
-    for j in 0..n {
-        row[j] = vals[from + j];
-    }
+    row[..n].copy_from_slice(&vals[from..from + n]);
     row
-}
-
-// The number after the first n.
-pub fn side_of(vals: &[i64; PLACES], n: usize) -> i64
-    requires { n ≤ n_max }
-    ensures { result ≡ get_or vals.now n (pos 0) }
-{
-    vals[n]
 }
 
 pub fn rows_of(vals: &[i64; PLACES], n: usize) -> [Row; N]
     requires { n ≤ n_max }
     ensures { result ≡ rows_of vals.now n }
 {
-    let zero = zero_row();
-    let mut rows = [zero; N];
+    let mut rows = [zero_row(); N];
     for i in 0..n {
-        let at = cells_of(vals, i * n, n);
-        rows[i] = Row { at };
+        rows[i].at = cells_of(vals, i * n, n);
     }
     rows
 }

@@ -1,34 +1,47 @@
--- `list_read::numbers::inverse_line` meets its contract.
-use mathlib.Core.Path.{refl, ap, ap₂, ◌∙◌}
+use mathlib.Core.Path.{◌≡◌, ◌∙◌}
+use borrow.Author.Rules.{rules}
+use Rattle.std.specs.Prelude.{Err}
 use Prim.Native.Nat.{◌*◌}
 use native.Mathlib.Omega.{arith}
 use Rattle.text.specs.Lists.{places_max}
-use Rattle.faults.specs.Checks.{first_of}
-use Rattle.checks.specs.Checks.{inverse_check}
 use Rattle.text.specs.Words.{inv_key}
+use Rattle.checks.specs.Checks.{inverse_check}
 use Rattle.lines.specs.Lines.{numbers_of, inverse_of}
 use Rattle.lines.specs.Places.{rows_of}
 use Rattle.lines.proofs.Squares.{square-fits}
-use Rattle.line_read.specs.At.{rows_at}
-use Rattle.line_read.proofs.Checked.{checked-line}
-use Rattle.list_read.proofs.Spelled.{after-spells, row-spells}
 use Rattle.reading.specs.Results.{after}
+use Rattle.line_read.proofs.Checked.{misspelled-line, bad-line, good-line}
+use Rattle.list_read.proofs.Spelled.{after-yes, after-no}
 use Rattle.list_read.proofs.numbers.inverse_line.Goals as goal
 
 pub overflow_mul-n : goal.overflow_mul-n
-overflow_mul-n c =
-    omega (arith, square-fits c.args.n c.requires.1)
+overflow_mul-n c = omega (arith, square-fits c.args.n c.requires.1)
+
+pub returns-in_err-list : goal.returns-in_err-list
+unfolding inverse_of
+returns-in_err-list c =
+    let p = c.args in
+    let numbers = numbers_of inv_key places_max (p.n * p.n) in
+    let e : c.from_residual.result ≡ Err c.in_err-list.field-0.0 = search rules in
+    e ∙ misspelled-line (λ l. after (numbers l) (λ vals. rows_of vals p.n)) (inverse_check p.n) p.text.now p.from
+    (after-no numbers (λ vals. rows_of vals p.n) p.text.now p.from _ c.in_err-list.ensures)
+
+pub returns-in_err-inverse_check : goal.returns-in_err-inverse_check
+unfolding inverse_of
+returns-in_err-inverse_check c =
+    let p = c.args in
+    let numbers = numbers_of inv_key places_max (p.n * p.n) in
+    let e : c.from_residual-in_err-inverse_check.result ≡ Err c.in_err-inverse_check.field-0.0 = search rules in
+    e ∙ bad-line (λ l. after (numbers l) (λ vals. rows_of vals p.n)) (inverse_check p.n) p.text.now p.from
+    (after-yes numbers (λ vals. rows_of vals p.n) p.text.now p.from _ c.in_ok-list.ensures)
+    (rw c.rows_of-rows.ensures at c.in_err-inverse_check.ensures)
 
 pub returns : goal.returns
 unfolding inverse_of
 returns c =
-    let n = c.args.n in
-    let rows = c.rows_of-rows.ensures in
-    let numbers = numbers_of inv_key places_max (n * n) in
-    checked-line rows_at (λ f b e. refl) (λ l. after (numbers l) (λ vals. rows_of vals n)) (inverse_check n) _ _
-    (after-spells numbers (λ vals. rows_of vals n) _ _
-    (row-spells c.list_at-l.ensures (n * n)))
-    (c.first_of.ensures
-    ∙ ap₂ first_of c.count_found.ensures
-    (c.inverse_check.ensures ∙ ap (inverse_check n) rows))
-    (rw rows at c.judged_rows.ensures)
+    let p = c.args in
+    let numbers = numbers_of inv_key places_max (p.n * p.n) in
+    rw c.rows_of-rows.ensures
+    (good-line (λ l. after (numbers l) (λ vals. rows_of vals p.n)) (inverse_check p.n) p.text.now p.from
+    (after-yes numbers (λ vals. rows_of vals p.n) p.text.now p.from _ c.in_ok-list.ensures)
+    (rw c.rows_of-rows.ensures at c.in_ok-inverse_check.ensures))

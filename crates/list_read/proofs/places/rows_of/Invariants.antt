@@ -1,5 +1,4 @@
--- `list_read::places::rows_of` meets its contract.
-use Prim.Native.Nat.{◌*◌, ◌-◌, ◌≤◌}
+use Prim.Native.Nat.{◌*◌, ◌≤◌}
 use mathlib.Core.Path.{◌≡◌}
 use Rattle.sizes.specs.Sizes.{n_max}
 use Rattle.lists.specs.Loops.{tab}
@@ -9,6 +8,3 @@ use Rattle.list_read.proofs.places.rows_of.Given as goal
 
 abbrev pub invariant-loop-i : goal.invariant-loop-i
 invariant-loop-i l = (l.i ≤ l.n) × (l.rows ≡ tab n_max l.i zero_row (λ k. record { at = cells l.vals (k * l.n) l.n }))
-
-abbrev pub decreases-loop-i : goal.decreases-loop-i
-decreases-loop-i l = l.n - l.i
