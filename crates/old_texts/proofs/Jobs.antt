@@ -6,12 +6,14 @@ use mathlib.Core.List.{List, foldl}
 use mathlib.Core.Logic.{◌⊎◌, inl, inr}
 use lib.ListN.{drop}
 use Rattle.faults.specs.declared.Fault.{Fault}
-use Rattle.faults.specs.Checked.{Checked, refused, status_of}
+use Rattle.faults.specs.Checked.{refused, status_of}
 use Rattle.jobs.specs.declared.Job.{Job}
 use Rattle.jobs.specs.declared.JobLine.{JobLine}
 use Rattle.jobs.specs.Lines.{job_number}
 use Rattle.checks.specs.Checks.{check_job}
 use Rattle.checks.proofs.AcceptedLaws.{check_done}
+use Rattle.checks.specs.Answered.{job_in}
+use Rattle.lines.specs.Answered.{answered}
 use Rattle.reading.specs.Results.{after}
 use Rattle.reading.specs.Lines.{State, Answer, heard, step, begin, read}
 use Rattle.reading.specs.Shows.{shown, Passed}
@@ -19,13 +21,13 @@ use Rattle.reading.specs.Narrower.{NarrowLine, Narrower, NarrowAnswer}
 use Rattle.reading.proofs.Decided.{stays-bad}
 use Rattle.reading.proofs.Walk.{all_above, line_read}
 use Rattle.reading.proofs.Narrower.{narrow-read, lines-bad}
-use Rattle.job_form.specs.JobForm.{job_says, job_form_of, job_answer, refused_with, read_job}
+use Rattle.job_form.specs.JobForm.{job_says, job_form_of, read_job}
 use Rattle.job_form.specs.JobBytes.{job_line, job_prior, job_shows, job_bytes}
 use Rattle.job_form.specs.Live.{job_upto}
 use Rattle.job_form.proofs.Back.{law, plain}
 use Rattle.job_form.proofs.Short.{job-width}
 use Rattle.job_form.proofs.Trips.{checked-passed}
-use Rattle.job_form.proofs.Answers.{answer-status, read-checked, read_same, exactly}
+use Rattle.job_form.proofs.Answers.{read-checked, read_same, exactly}
 use Rattle.old_texts.specs.Old.{n_old, text_old, old_job_says, old_job_form, old_read_job}
 use Rattle.old_texts.proofs.Lines.{after-narrow, unknowns-narrow, unknowns-refused}
 use Rattle.old_texts.proofs.Lines as lines
@@ -58,23 +60,23 @@ pub same_or : (t : List ℕ)
     ⊎ ((old_read_job t ≡ refused Fault.Unknowns 3)
     ⊎ (old_read_job t ≡ refused Fault.LongText 0))
 unfolding read_job old_read_job
-same_or = lines.same_or (read old_job_form) (read job_form_of) old-answer job_answer
+same_or = lines.same_or (read old_job_form) (read job_form_of) old-answer
 
 -- where it answers neither 1 nor 3
 pub same_otherwise : (t : List ℕ) → ((n : ℕ) → status_of (old_read_job t) ≡ refused Fault.LongText n → ⊥)
     → ((n : ℕ) → status_of (old_read_job t) ≡ refused Fault.Unknowns n → ⊥) → read_job t ≡ old_read_job t
 unfolding read_job old_read_job
 same_otherwise =
-    lines.same_otherwise (read old_job_form) (read job_form_of) old-answer job_answer (λ x. x.status) answer-status
+    lines.same_otherwise (read old_job_form) (read job_form_of) old-answer
 
 done-too : (t : List ℕ) → status_of (old_read_job t) ≡ Ok tt → read_job t ≡ old_read_job t
 unfolding read_job old_read_job
-done-too = lines.done-too (read old_job_form) (read job_form_of) old-answer job_answer (λ x. x.status) answer-status
+done-too = lines.done-too (read old_job_form) (read job_form_of) old-answer
 
 pub as_before : (t : List ℕ) (j : Job) → old_read_job t ≡ Ok j
     → (read_job t ≡ Ok j) × (job_bytes j ≡ t)
 as_before t j e =
-    let now = done-too t (ap (λ (x : Checked Job). x.status) e) ∙ e in
+    let now = done-too t (ap status_of e) ∙ e in
     (now, ((exactly t j).0 now).0)
 
 -- ---- a right text of more unknowns
@@ -114,5 +116,5 @@ pub right_new : (t : List ℕ) → status_of (read_job t) ≡ Ok tt → n_old < 
     → old_read_job t ≡ refused Fault.Unknowns 3
 unfolding old_read_job
 right_new t e many =
-    ap (λ (x : List ℕ). job_answer (read old_job_form x)) (sym (read_same t e))
-    ∙ ap job_answer (old-refuses (job_in (read_job t)) (read-checked t e) many)
+    ap (λ (x : List ℕ). answered (read old_job_form x)) (sym (read_same t e))
+    ∙ ap answered (old-refuses (job_in (read_job t)) (read-checked t e) many)

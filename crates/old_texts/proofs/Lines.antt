@@ -13,18 +13,19 @@ use Rattle.text.specs.Keys.{body_of}
 use Rattle.text.specs.Words.{n_key, lo_key}
 use Rattle.text.specs.Lists.{Small}
 use Rattle.faults.specs.declared.Fault.{Fault}
-use Rattle.faults.specs.Checked.{Finding, Status, Found, refused}
+use Rattle.faults.specs.Checked.{Finding, Found, refused, status_of, Status}
 use Rattle.faults.specs.Checks.{bad_unless, first_of}
 use Rattle.term_checks.specs.Ranges.{one_to}
 use Rattle.term_checks.proofs.RangeLaws.{one-to, to_one}
 use Rattle.checks.specs.Checks.{low_check, unknowns_check}
 use Rattle.checks.specs.CheckResult.{count_check, counted_check}
 use Rattle.reading.specs.Results.{after, passing}
-use Rattle.reading.specs.NumberLines.{placed, Listed, list_line}
+use Rattle.reading.specs.NumberLines.{placed, list_line}
+use Rattle.reading.specs.declared.Listed.{Listed}
 use Rattle.reading.specs.Lines.{Answer}
 use Rattle.reading.specs.Narrower.{NarrowLine, NarrowAnswer}
 use Rattle.reading.proofs.NumberLines.{list-line-back}
-use Rattle.lines.specs.Found.{found, status_of}
+use Rattle.lines.specs.Answered.{answered}
 use Rattle.lines.specs.Lines.{digit_is, unknowns_of, any_low_of}
 use Rattle.lines.specs.Texts.{count_text, row_text}
 use Rattle.lines.proofs.Unknowns.{digit-back, unknowns-back}
@@ -39,8 +40,8 @@ after-narrow h (NarrowLine.faulty e) = NarrowLine.faulty (ap (λ x. after x h) e
 
 -- one check, or the other, of what is read
 passing-narrow : {A : Type 0} (r : Found A) (old new : A → Finding)
-    → ((x : A) → NarrowLine Fault.Unknowns (after (found (old x)) (λ u. x)) (after (found (new x)) (λ u. x)))
-    → NarrowLine Fault.Unknowns (passing r (λ x. found (old x))) (passing r (λ x. found (new x)))
+    → ((x : A) → NarrowLine Fault.Unknowns (after (old x) (λ u. x)) (after (new x) (λ u. x)))
+    → NarrowLine Fault.Unknowns (passing r (λ x. old x)) (passing r (λ x. new x))
 unfolding passing
 passing-narrow (Ok x) old new h = h x
 passing-narrow (Err f) old new h = NarrowLine.same refl
@@ -48,13 +49,13 @@ passing-narrow (Err f) old new h = NarrowLine.same refl
 -- ---- n
 
 unknowns-of : (n : ℕ)
-    → NarrowLine Fault.Unknowns (after (found (old_unknowns n)) (λ u. n)) (after (found (unknowns_check n)) (λ u. n))
+    → NarrowLine Fault.Unknowns (after (old_unknowns n) (λ u. n)) (after (unknowns_check n) (λ u. n))
 unfolding after bad_unless unknowns_check
 unknowns-of n = go (one_to n_old n) refl
   where
     go : (b : Bool) → one_to n_old n ≡ b
-        → NarrowLine Fault.Unknowns (after (found (bad_unless b Fault.Unknowns)) (λ u. n))
-        (after (found (bad_unless (one_to n_max n) Fault.Unknowns)) (λ u. n))
+        → NarrowLine Fault.Unknowns (after (bad_unless b Fault.Unknowns) (λ u. n))
+        (after (bad_unless (one_to n_max n) Fault.Unknowns) (λ u. n))
     go true e =
         let few = one-to n_old n e in
         rw (to_one n_max n few.0 (omega (arith, few.1))) (NarrowLine.same refl)
@@ -71,8 +72,8 @@ unknowns-refused n many one = rw (digit-back n one, le-leb 1 n (omega arith), lt
 -- ---- lo of a result
 
 count_of : (x : Listed)
-    → NarrowLine Fault.Unknowns (after (found (old_counted x)) (λ u. x))
-    (after (found (counted_check x.count x.row)) (λ u. x))
+    → NarrowLine Fault.Unknowns (after (old_counted x) (λ u. x))
+    (after (counted_check x.count x.row) (λ u. x))
 unfolding after bad_unless counted_check count_check first_of
 count_of x = go (leb 1 x.count) (leb x.count n_old) refl
   where
@@ -81,10 +82,10 @@ count_of x = go (leb 1 x.count) (leb x.count n_old) refl
 
     go : (some few : Bool) → leb x.count n_old ≡ few
         → NarrowLine Fault.Unknowns
-        (after (found (first_of (first_of (bad_unless some Fault.Spelling) (bad_unless few Fault.Unknowns)) low))
+        (after (first_of (first_of (bad_unless some Fault.Spelling) (bad_unless few Fault.Unknowns)) low)
         (λ u. x))
-        (after (found (first_of
-        (first_of (bad_unless some Fault.Spelling) (bad_unless (leb x.count n_max) Fault.Unknowns)) low)) (λ u. x))
+        (after (first_of
+        (first_of (bad_unless some Fault.Spelling) (bad_unless (leb x.count n_max) Fault.Unknowns)) low) (λ u. x))
     go false few e = NarrowLine.same refl
     go true true e =
         let h = leb-true x.count n_old e in
@@ -121,38 +122,35 @@ module _ (n : ℕ) (many : n_old < n) (few : n ≤ n_max) where
   unfolding count_check first_of bad_unless
   count-taken = rw (le-leb 1 n (omega arith), le-leb n n_max few)
 
--- ---- the answers, and what is made of them
+-- ---- the answers
 
-module _ {X R : Type 0} (old new : List ℕ → Answer Fault X) {line : ℕ}
-    (near : (t : List ℕ) → NarrowAnswer Fault.Unknowns line Fault.LongText (old t) (new t)) (by : Answer Fault X → R)
-  where
-    pub same_or : (t : List ℕ)
-        → (by (old t) ≡ by (new t))
-        ⊎ ((by (old t) ≡ by (Answer.refused Fault.Unknowns line)) ⊎ (by (old t) ≡ by (Answer.refused Fault.LongText 0)))
-    same_or t = go (near t)
-      where
-        go : NarrowAnswer Fault.Unknowns line Fault.LongText (old t) (new t)
-            → (by (old t) ≡ by (new t))
-            ⊎ ((by (old t) ≡ by (Answer.refused Fault.Unknowns line))
-            ⊎ (by (old t) ≡ by (Answer.refused Fault.LongText 0)))
-        go (NarrowAnswer.same e) = inl (ap by e)
-        go (NarrowAnswer.faulty e) = inr (inl (ap by e))
-        go (NarrowAnswer.too_long e) = inr (inr (ap by e))
+module _ {X : Type 0} (old new : List ℕ → Answer Fault X) {line : ℕ}
+    (near : (t : List ℕ) → NarrowAnswer Fault.Unknowns line Fault.LongText (old t) (new t)) where
+  pub same_or : (t : List ℕ)
+      → (answered (old t) ≡ answered (new t))
+      ⊎ ((answered (old t) ≡ refused Fault.Unknowns line) ⊎ (answered (old t) ≡ refused Fault.LongText 0))
+  same_or t = go (near t)
+    where
+      go : NarrowAnswer Fault.Unknowns line Fault.LongText (old t) (new t)
+          → (answered (old t) ≡ answered (new t))
+          ⊎ ((answered (old t) ≡ refused Fault.Unknowns line) ⊎ (answered (old t) ≡ refused Fault.LongText 0))
+      go (NarrowAnswer.same e) = inl (ap answered e)
+      go (NarrowAnswer.faulty e) = inr (inl (ap answered e))
+      go (NarrowAnswer.too_long e) = inr (inr (ap answered e))
 
-    module _ (status : R → Status) (is : (a : Answer Fault X) → status (by a) ≡ status_of a) where
-      pub same_otherwise : (t : List ℕ)
-          → ((n : ℕ) → status (by (old t)) ≡ refused Fault.LongText n → ⊥)
-          → ((n : ℕ) → status (by (old t)) ≡ refused Fault.Unknowns n → ⊥) → by (new t) ≡ by (old t)
-      same_otherwise t long many = go (near t)
-        where
-          go : NarrowAnswer Fault.Unknowns line Fault.LongText (old t) (new t) → by (new t) ≡ by (old t)
-          go (NarrowAnswer.same e) = ap by (sym e)
-          go (NarrowAnswer.faulty e) = absurd (many line (is (old t) ∙ ap status_of e))
-          go (NarrowAnswer.too_long e) = absurd (long 0 (is (old t) ∙ ap status_of e))
+  pub same_otherwise : (t : List ℕ)
+      → ((n : ℕ) → status_of (answered (old t)) ≡ refused Fault.LongText n → ⊥)
+      → ((n : ℕ) → status_of (answered (old t)) ≡ refused Fault.Unknowns n → ⊥) → answered (new t) ≡ answered (old t)
+  same_otherwise t long many = go (near t)
+    where
+      go : NarrowAnswer Fault.Unknowns line Fault.LongText (old t) (new t) → answered (new t) ≡ answered (old t)
+      go (NarrowAnswer.same e) = ap answered (sym e)
+      go (NarrowAnswer.faulty e) = absurd (many line (ap (λ a. status_of (answered a)) e))
+      go (NarrowAnswer.too_long e) = absurd (long 0 (ap (λ a. status_of (answered a)) e))
 
-      pub done-too : (t : List ℕ) → status (by (old t)) ≡ Ok tt → by (new t) ≡ by (old t)
-      done-too t done =
-          same_otherwise t (λ n p. done_refused (sym done ∙ p)) (λ n p. done_refused (sym done ∙ p))
-        where
-          done_refused : {f : Fault} {n : ℕ} → Ok tt ≡ refused f n → ⊥
-          done_refused e = let z : ◌≡◌ {A = ℕ} 0 1 = cc in absurd (omega arith)
+  pub done-too : (t : List ℕ) → status_of (answered (old t)) ≡ Ok tt → answered (new t) ≡ answered (old t)
+  done-too t done =
+      same_otherwise t (λ n p. done_refused done p) (λ n p. done_refused done p)
+    where
+      done_refused : {f : Fault} {n : ℕ} {s : Status} → s ≡ Ok tt → s ≡ refused f n → ⊥
+      done_refused e p = let z : ◌≡◌ {A = ℕ} 0 1 = cc in absurd (omega arith)

@@ -20,13 +20,15 @@ use Rattle.jobs.specs.declared.Result.{Result}
 use Rattle.checks.specs.CheckResult.{count_check}
 use Rattle.term_write.specs.ShowTerms.{show_exponents}
 use Rattle.term_write.proofs.Terms.{exponents-long}
+use Rattle.checks.specs.Answered.{job_in}
+use Rattle.checks.specs.Answered.{result_in}
 use Rattle.lines.specs.Lines.{unknowns_of}
 use Rattle.lines.specs.Texts.{count_text}
-use Rattle.job_form.specs.JobForm.{refused_with, read_job}
+use Rattle.job_form.specs.JobForm.{read_job}
 use Rattle.job_form.specs.JobBytes.{job_bytes}
 use Rattle.result_form.specs.ResultForm.{read_result}
 use Rattle.result_form.specs.ResultShows.{show_result}
-use Rattle.old_texts.specs.Old.{old_unknowns_of, old_read_job, old_count, old_read_result, result_refused}
+use Rattle.old_texts.specs.Old.{old_unknowns_of, old_read_job, old_count, old_read_result}
 use Rattle.old_texts.proofs.Lines as lines
 use Rattle.old_texts.proofs.Jobs as jobs
 use Rattle.old_texts.proofs.Results as results

@@ -6,7 +6,7 @@ use mathlib.Core.List.{List, foldl}
 use mathlib.Core.Logic.{◌⊎◌, inl, inr}
 use lib.ListN.{drop}
 use Rattle.faults.specs.declared.Fault.{Fault}
-use Rattle.faults.specs.Checked.{Checked, refused, status_of}
+use Rattle.faults.specs.Checked.{refused, status_of}
 use Rattle.jobs.specs.declared.Result.{Result}
 use Rattle.jobs.specs.declared.ResultLine.{ResultLine}
 use Rattle.jobs.specs.Lines.{result_number}
@@ -18,14 +18,15 @@ use Rattle.reading.specs.Narrower.{NarrowLine, Narrower, NarrowAnswer}
 use Rattle.reading.proofs.Decided.{stays-bad}
 use Rattle.reading.proofs.Walk.{all_above, line_read}
 use Rattle.reading.proofs.Narrower.{narrow-read, lines-bad}
-use Rattle.lines.proofs.Found.{found-fine}
+use Rattle.checks.specs.Answered.{result_in}
+use Rattle.lines.specs.Answered.{answered}
 use Rattle.lines.proofs.Checks.{counted-fine}
-use Rattle.result_form.specs.ResultForm.{result_says, result_form_of, result_answer, read_result}
+use Rattle.result_form.specs.ResultForm.{result_says, result_form_of, read_result}
 use Rattle.result_form.specs.ResultShows.{line, kinds, upto, result_shows, show_result}
 use Rattle.result_form.proofs.Back.{law, plain}
 use Rattle.result_form.proofs.Trips.{checked-passed, result-width}
-use Rattle.result_form.proofs.Answers.{answer-status, read-checked, read_same, exactly}
-use Rattle.old_texts.specs.Old.{n_old, text_old, old_result_says, old_result_form, old_read_result, result_refused}
+use Rattle.result_form.proofs.Answers.{read-checked, read_same, exactly}
+use Rattle.old_texts.specs.Old.{n_old, text_old, old_result_says, old_result_form, old_read_result}
 use Rattle.old_texts.proofs.Lines.{after-narrow, low_narrow, low-refused}
 use Rattle.old_texts.proofs.Lines as lines
 use Rattle.std.specs.Prelude.{Ok}
@@ -55,25 +56,23 @@ pub same_or : (t : List ℕ)
     ⊎ ((old_read_result t ≡ refused Fault.Unknowns 5)
     ⊎ (old_read_result t ≡ refused Fault.LongText 0))
 unfolding read_result old_read_result
-same_or = lines.same_or (read old_result_form) (read result_form_of) old-answer result_answer
+same_or = lines.same_or (read old_result_form) (read result_form_of) old-answer
 
 -- where it answers neither 1 nor 3
 pub same_otherwise : (t : List ℕ) → ((n : ℕ) → status_of (old_read_result t) ≡ refused Fault.LongText n → ⊥)
     → ((n : ℕ) → status_of (old_read_result t) ≡ refused Fault.Unknowns n → ⊥) → read_result t ≡ old_read_result t
 unfolding read_result old_read_result
 same_otherwise =
-    lines.same_otherwise (read old_result_form) (read result_form_of) old-answer result_answer (λ x. x.status)
-    answer-status
+    lines.same_otherwise (read old_result_form) (read result_form_of) old-answer
 
 done-too : (t : List ℕ) → status_of (old_read_result t) ≡ Ok tt → read_result t ≡ old_read_result t
 unfolding read_result old_read_result
-done-too = lines.done-too (read old_result_form) (read result_form_of) old-answer result_answer (λ x. x.status)
-    answer-status
+done-too = lines.done-too (read old_result_form) (read result_form_of) old-answer
 
 pub as_before : (t : List ℕ) (r : Result) → old_read_result t ≡ Ok r
     → (read_result t ≡ Ok r) × (show_result r ≡ t)
 as_before t r e =
-    let now = done-too t (ap (λ (x : Checked Result). x.status) e) ∙ e in
+    let now = done-too t (ap status_of e) ∙ e in
     (now, ((exactly t r).0 now).0)
 
 -- ---- a right text of more unknowns
@@ -118,7 +117,7 @@ old-refuses : (r : Result) → check_result r ≡ Ok tt → n_old < r.n
 unfolding result_check
 old-refuses r checked many =
     let passed = checked-passed r checked in
-    let few = (counted-fine r.n r.lo (found-fine _ passed.1.1.1.1.0)).0.1 in
+    let few = (counted-fine r.n r.lo passed.1.1.1.1.0).0.1 in
     lines-bad old_result_form (shown result_shows r) Fault.Unknowns 5 (all_above result_shows r (plain r) kinds)
     (omega (arith, result-width r, few)) (lines-refused r passed many)
 
@@ -126,5 +125,5 @@ pub right_new : (t : List ℕ) → status_of (read_result t) ≡ Ok tt → n_old
     → old_read_result t ≡ refused Fault.Unknowns 5
 unfolding old_read_result
 right_new t e many =
-    ap (λ (x : List ℕ). result_answer (read old_result_form x)) (sym (read_same t e))
-    ∙ ap result_answer (old-refuses (result_in (read_result t)) (read-checked t e) many)
+    ap (λ (x : List ℕ). answered (read old_result_form x)) (sym (read_same t e))
+    ∙ ap answered (old-refuses (result_in (read_result t)) (read-checked t e) many)

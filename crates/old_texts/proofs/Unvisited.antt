@@ -24,12 +24,12 @@ use Rattle.reading.specs.NumberLines.{counted, count_line}
 use Rattle.reading.proofs.Decided.{stays-bad}
 use Rattle.reading.proofs.Goes.{and-false, read-long}
 use Rattle.reading.proofs.Narrower.{read-lines}
+use Rattle.lines.specs.Answered.{answered}
 use Rattle.lines.specs.Lines.{number_of, visit_of, verdict_of, misspelled}
 use Rattle.lines.specs.Texts.{verdict_text}
 use Rattle.lines.proofs.Words.{verdict-told}
-use Rattle.result_form.specs.ResultForm.{with_number, with_verdict, leaves, result_says, result_form_of, result_answer}
+use Rattle.result_form.specs.ResultForm.{with_number, with_verdict, leaves, result_says, result_form_of}
 use Rattle.result_form.specs.ResultForm.{read_result}
-use Rattle.old_texts.specs.Old.{result_refused}
 use Rattle.old_texts.specs.Unvisited.{unvisited_says, unvisited_form}
 use Rattle.std.specs.Prelude.{Ok, Err}
 
@@ -108,4 +108,4 @@ refused-now t r e =
     let lines = pieces line_feed t in
     let held = length (rest line_feed t) in
     let bad = lines-refused held r lines (sym (read-lines unvisited_form t few) ∙ e) in
-    ap result_answer (read-lines result_form_of t few ∙ ap (λ (s : Stands). ended result_form_of s held) bad))
+    ap answered (read-lines result_form_of t few ∙ ap (λ (s : Stands). ended result_form_of s held) bad))

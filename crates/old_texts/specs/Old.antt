@@ -6,25 +6,25 @@ use Rattle.sizes.specs.Sizes.{n_max}
 use Rattle.text.specs.Keys.{body_of}
 use Rattle.text.specs.Words.{n_key, lo_key}
 use Rattle.faults.specs.declared.Fault.{Fault}
-use Rattle.faults.specs.Checked.{Finding, Status, Found, Checked}
+use Rattle.faults.specs.Checked.{Finding, Found, Checked}
 use Rattle.faults.specs.Checks.{bad_unless, first_of}
 use Rattle.term_checks.specs.Ranges.{one_to}
 use Rattle.checks.specs.Checks.{low_check}
 use Rattle.reading.specs.Results.{after, passing}
 use Rattle.reading.specs.Lines.{Next, Form, read}
-use Rattle.reading.specs.NumberLines.{Listed, list_line}
+use Rattle.reading.specs.NumberLines.{list_line}
+use Rattle.reading.specs.declared.Listed.{Listed}
 use Rattle.reading.specs.Narrower.{limited}
 use Rattle.jobs.specs.declared.Job.{Job}
 use Rattle.jobs.specs.declared.JobLine.{JobLine}
 use Rattle.jobs.specs.declared.Result.{Result}
 use Rattle.jobs.specs.declared.ResultLine.{ResultLine}
-use Rattle.jobs.specs.Zero.{no_result}
 use Rattle.jobs.specs.Lines.{after_n}
 use Rattle.jobs.specs.Parts.{with_unknowns}
-use Rattle.lines.specs.Found.{found}
+use Rattle.lines.specs.Answered.{answered}
 use Rattle.lines.specs.Lines.{digit_is}
-use Rattle.job_form.specs.JobForm.{job_says, job_form_of, job_answer}
-use Rattle.result_form.specs.ResultForm.{with_low, leaves, result_says, result_form_of, result_answer}
+use Rattle.job_form.specs.JobForm.{job_says, job_form_of}
+use Rattle.result_form.specs.ResultForm.{with_low, leaves, result_says, result_form_of}
 
 -- "n: 1 to 4"
 abbrev pub n_old : ℕ
@@ -41,7 +41,7 @@ abbrev pub old_unknowns : ℕ → Finding
 old_unknowns n = bad_unless (one_to n_old n) Fault.Unknowns
 
 unfoldable pub old_unknowns_of : List ℕ → Found ℕ
-old_unknowns_of l = passing (digit_is (body_of n_key l)) (λ n. found (old_unknowns n))
+old_unknowns_of l = passing (digit_is (body_of n_key l)) old_unknowns
 
 unfoldable pub old_job_says : JobLine → Job → List ℕ → Found (Next JobLine Job)
 old_job_says JobLine.Number j l = job_says JobLine.Number j l
@@ -59,8 +59,8 @@ old_job_says JobLine.End j l = job_says JobLine.End j l
 abbrev pub old_job_form : Form Fault JobLine Job
 old_job_form = limited job_form_of old_job_says text_old
 
-unfoldable pub old_read_job : List ℕ → (Checked Job)
-old_read_job t = job_answer (read old_job_form t)
+unfoldable pub old_read_job : List ℕ → Checked Job
+old_read_job t = answered (read old_job_form t)
 
 -- ---- a result
 
@@ -73,7 +73,7 @@ old_counted x = first_of (old_count x.count) (low_check x.count x.row)
 
 -- lo=: "the length of the `lo` list is n"
 unfoldable pub old_low_of : List ℕ → Found Listed
-old_low_of l = passing (list_line Fault.Spelling lo_key n_max l) (λ x. found (old_counted x))
+old_low_of l = passing (list_line Fault.Spelling lo_key n_max l) old_counted
 
 unfoldable pub old_result_says : ResultLine → Result → List ℕ → Found (Next ResultLine Result)
 old_result_says ResultLine.Number v l = result_says ResultLine.Number v l
@@ -87,9 +87,5 @@ old_result_says ResultLine.End v l = result_says ResultLine.End v l
 abbrev pub old_result_form : Form Fault ResultLine Result
 old_result_form = limited result_form_of old_result_says text_old
 
-unfoldable pub old_read_result : List ℕ → (Checked Result)
-old_read_result t = result_answer (read old_result_form t)
-
--- "everything is zero beside a fault"
-abbrev pub result_refused : Status → (Checked Result)
-result_refused st = record { status = st; result = no_result }
+unfoldable pub old_read_result : List ℕ → Checked Result
+old_read_result t = answered (read old_result_form t)
