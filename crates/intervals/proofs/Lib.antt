@@ -9,3 +9,4 @@ pub mod Hold
 pub mod Inclusion
 pub mod Places
 pub mod Around
+pub mod Same

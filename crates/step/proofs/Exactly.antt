@@ -23,7 +23,6 @@ use Rattle.step.specs.declared.Move.{Move}
 use Rattle.step.specs.Decide.{all_meet, all_inside, cut_same, decide_of}
 use Rattle.step.specs.Meanings.{Apart, Strict, Covered, Empty, Strictly, Unchanged}
 use Rattle.step.proofs.Decisions.{zero_one, Decided, none, unique, stalled, next, decided}
-use Rattle.std.specs.Prelude.{Some}
 
 -- ---- the tests of one coordinate
 lt-lt_z : (a b : ℤ) → a <ℤ b → lt_z a b ≡ true

@@ -9,3 +9,4 @@ pub mod Decisions
 pub mod Exactly
 pub mod Given
 pub mod Filled
+pub mod Fitting

@@ -5,7 +5,6 @@ pub mod values;
 
 ghost use Rattle.std.specs.Prelude.{◌≡◌, ◌≤◌};
 ghost use Rattle.sizes.specs.Sizes.{n_max};
-ghost use Rattle.lists.specs.Loops.{both};
 ghost use Rattle.intervals.specs.Interval.{point_i, add_i, neg_i};
 ghost use Rattle.intervals.specs.Places.{entry_at, side_at, cell_at, vector_of};
 ghost use Rattle.slopes.specs.Ranges.{BoxIn};
@@ -13,7 +12,8 @@ ghost use Rattle.step.specs.Step.{middle_of, image_from};
 ghost use Rattle.step.specs.Decide.{decide_of};
 ghost use Rattle.step.specs.Ranges.{ImageIn, JoinIn};
 
-use intervals::Interval;
+use intervals::{Interval, ZERO};
+use lists::filled;
 use sizes::N;
 
 // What a step decides: a verdict, or that X becomes the cut and the next step begins.
@@ -49,32 +49,25 @@ pub fn middles(x: [Interval; N], n: usize) -> [Interval; N]
     requires { BoxIn n (side_at x) }
     ensures { result ≡ vector_of n (λ k. point_i (middle_of (side_at x) k)) }
 {
-    let mut m = [Interval { lo: 0, hi: 0 }; N];
-    for k in 0..n {
-        m[k] = intervals::point(intervals::middle(x[k]));
-    }
-    m
+    filled(ZERO, n, |k| intervals::point(intervals::middle(x[k])))
 }
 
 // Z = X - m.
 pub fn offsets(x: [Interval; N], m: [Interval; N], n: usize) -> [Interval; N]
-    requires box_in { BoxIn n (side_at x) }
-    requires box_in_2 { BoxIn n (side_at m) }
+    requires x_in { BoxIn n (side_at x) }
+    requires m_in { BoxIn n (side_at m) }
     ensures { result ≡ vector_of n (λ k. add_i (side_at x k) (neg_i (side_at m k))) }
 {
-    let mut z = [Interval { lo: 0, hi: 0 }; N];
-    for k in 0..n {
-        z[k] = intervals::add(x[k], intervals::negated(m[k]));
-    }
-    z
+    filled(ZERO, n, |k| intervals::add(x[k], intervals::negated(m[k])))
 }
 
-// K = m - D + E.
+// K = m - D + E. (A closure's three sums, for `lists::filled`: the proof of what they ask was not found.)
+#[tactic(auto, using(lists::proofs::Fills::fills))]
 pub fn joined(m: [Interval; N], d: [Interval; N], e: [Interval; N], n: usize) -> [Interval; N]
     requires { JoinIn n (side_at m) (side_at d) (side_at e) }
     ensures { result ≡ vector_of n (λ i. add_i (add_i (side_at m i) (neg_i (side_at d i))) (side_at e i)) }
 {
-    let mut k = [Interval { lo: 0, hi: 0 }; N];
+    let mut k = [ZERO; N];
     for i in 0..n {
         let newton = intervals::add(m[i], intervals::negated(d[i]));
         k[i] = intervals::add(newton, e[i]);
@@ -101,18 +94,12 @@ pub fn image(
     joined(m, d, e, n)
 }
 
-fn both(a: bool, b: bool) -> bool
-    ensures { result ≡ both a b }
-{
-    if a { b } else { false }
-}
-
 // What the image k decides on the box x, by one look at each coordinate.
 pub fn decide(x: [Interval; N], k: [Interval; N], n: usize) -> Decision
     requires { n ≤ n_max }
     ensures { result ≡ decide_of n x k }
 {
-    let mut c = [Interval { lo: 0, hi: 0 }; N];
+    let mut c = [ZERO; N];
     let mut inside = true;
     let mut same = true;
     for i in 0..n {
@@ -125,8 +112,8 @@ pub fn decide(x: [Interval; N], k: [Interval; N], n: usize) -> Decision
             };
         }
         let side = intervals::cut(a, b);
-        inside = both(inside, intervals::strictly_inside(a, b));
-        same = both(same, intervals::same(side, a));
+        inside &= intervals::strictly_inside(a, b);
+        same &= side == a;
         c[i] = side;
     }
     if inside {

@@ -10,7 +10,7 @@ pub b_matrix-b-requires : goal.b_matrix-b-requires
 b_matrix-b-requires c = b-in c.requires
 
 pub offsets-z-requires : goal.offsets-z-requires
-offsets-z-requires c = let p = c.requires in record { box_in = p.box; box_in_2 = p.middles }
+offsets-z-requires c = let p = c.requires in record { x_in = p.box; m_in = p.middles }
 
 pub e_vector-e-requires : goal.e_vector-e-requires
 e_vector-e-requires c = e-in c.requires c.b_matrix-b.ensures c.offsets-z.ensures

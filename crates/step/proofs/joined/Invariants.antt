@@ -1,6 +1,5 @@
 -- joined: each turn makes one coordinate of K.
 use mathlib.Core.Path.{◌≡◌}
-use Prim.Native.Nat.{◌≤◌, ◌-◌}
 use Rattle.sizes.specs.Sizes.{n_max}
 use Rattle.lists.specs.Loops.{tab}
 use Rattle.intervals.specs.Interval.{zero_i, add_i, neg_i}
@@ -9,8 +8,4 @@ use Rattle.step.proofs.joined.Given as goal
 
 abbrev pub invariant-loop-i : goal.invariant-loop-i
 invariant-loop-i l =
-    (l.i ≤ l.n) × (l.k ≡ tab n_max l.i zero_i (λ j. add_i (add_i (side_at l.m j) (neg_i (side_at l.d j)))
-    (side_at l.e j)))
-
-abbrev pub decreases-loop-i : goal.decreases-loop-i
-decreases-loop-i l = l.n - l.i
+    l.k ≡ tab n_max l.i zero_i (λ j. add_i (add_i (side_at l.m j) (neg_i (side_at l.d j))) (side_at l.e j))

@@ -1,6 +1,5 @@
 -- matrix: each turn copies one row.
 use mathlib.Core.Path.{◌≡◌}
-use Prim.Native.Nat.{◌≤◌, ◌-◌}
 use lib.IntN.{pos}
 use lib.ListN.{replicate}
 use Rattle.sizes.specs.Sizes.{n_max}
@@ -9,7 +8,4 @@ use Rattle.jobs.specs.Places.{row_at}
 use Rattle.step.proofs.values.matrix.Given as goal
 
 abbrev pub invariant-loop-i : goal.invariant-loop-i
-invariant-loop-i l = (l.i ≤ l.n) × (l.c ≡ tab n_max l.i (replicate n_max (pos 0)) (row_at l.rows))
-
-abbrev pub decreases-loop-i : goal.decreases-loop-i
-decreases-loop-i l = l.n - l.i
+invariant-loop-i l = l.c ≡ tab n_max l.i (replicate n_max (pos 0)) (row_at l.rows)
