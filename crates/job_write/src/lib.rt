@@ -7,41 +7,28 @@ ghost use Rattle.faults.specs.Answer.{Leaves};
 ghost use Rattle.job_form.specs.JobBytes.{job_bytes};
 
 use checks::job::check_job;
-use faults::{Fault, Status, Written};
+use faults::{Checked, Fault, refused};
 use job_put::put_job;
 use jobs::Job;
 
 // The text of a job whose check found nothing, for any buffer. The same writer on a buffer of one byte measures it
 // first, so that nothing is written where it does not fit.
-pub fn write_ready(j: Job, out: &mut [u8]) -> Written
+pub fn write_ready(j: Job, out: &mut [u8]) -> Checked<usize>
     requires { check_job j ≡ Ok tt }
-    ensures { Leaves Ok tt (job_bytes j) out.old out.new result }
+    ensures { Leaves (Ok tt) (job_bytes j) out.old out.new result }
 {
     let mut scratch = [0u8; 1];
     let len = put_job(&mut scratch, j);
     if out.len() < len {
-        return Written {
-            status: Status::Refused(Fault::ShortBuffer, 0),
-            len: 0,
-        };
+        return refused(Fault::ShortBuffer, 0);
     }
-    put_job(out, j);
-    Written {
-        status: Status::Done,
-        len,
-    }
+    Ok(put_job(out, j))
 }
 
 // A job's text, for any values and any buffer.
-pub fn write_job(j: Job, out: &mut [u8]) -> Written
+pub fn write_job(j: Job, out: &mut [u8]) -> Checked<usize>
     ensures { Leaves (check_job j) (job_bytes j) out.old out.new result }
 {
-    let status = check_job(j);
-    match status {
-        Status::Refused(f, line) => Written {
-            status: Status::Refused(f, line),
-            len: 0,
-        },
-        Status::Done => write_ready(j, out),
-    }
+    check_job(j)?;
+    write_ready(j, out)
 }

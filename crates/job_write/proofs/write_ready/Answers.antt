@@ -14,8 +14,8 @@ put_job-len-requires c = c.requires
 pub returns-then-out-len : goal.returns-then-out-len
 returns-then-out-len c =
     let args = c.args in
-    no_room (job_bytes args.j) args.out.now
-    (omega (arith, c.put_job-len.ensures.next, c.if-out-len.true))
+    rw c.refused.ensures
+    (no_room (job_bytes args.j) args.out.now (omega (arith, c.put_job-len.ensures.next, c.if-out-len.true)))
 
 pub put_job-requires : goal.put_job-requires
 put_job-requires c = c.requires
@@ -23,7 +23,6 @@ put_job-requires c = c.requires
 pub returns : goal.returns
 returns c =
     let args = c.args in
-    let next = c.put_job-len.ensures.next in
-    rw (next ∙ zero-add (length (job_bytes args.j)))
-    (all-written (job_bytes args.j) args.out.now (omega (arith, next, c.if-out-len.false))
-    c.put_job.ensures)
+    let len = c.put_job-len.ensures.next in
+    rw (c.put_job.ensures.next ∙ zero-add (length (job_bytes args.j)))
+    (all-written (job_bytes args.j) args.out.now (omega (arith, len, c.if-out-len.false)) c.put_job.ensures)
