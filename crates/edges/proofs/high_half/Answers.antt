@@ -1,15 +1,7 @@
--- high_half: the widest edge is cut at its middle.
+-- high_half: the widest edge has a middle.
 use native.Mathlib.Omega.{arith}
 use Rattle.intervals.proofs.Ranges.{fits-mid}
-use Rattle.edges.specs.Edges.{high_half}
-use Rattle.edges.proofs.Found.{widest-in}
 use Rattle.edges.proofs.high_half.Goals as goal
 
-pub high_part-requires : goal.high_part-requires
-high_part-requires c =
-    rw c.widest_side.ensures (fits-mid (omega arith) (widest-in c.args.x c.args.n c.requires.le_n c.requires.box_in))
-
-pub returns : goal.returns
-unfolding high_half
-returns c =
-    rw (← c.widest_side.ensures, ← c.high_part.ensures) c.with_widest.ensures
+pub middle-requires : goal.middle-requires
+middle-requires c = fits-mid (omega arith) (c.requires.x_in.each c.widest-k.result c.widest-k.ensures.live)

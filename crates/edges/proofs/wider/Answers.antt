@@ -5,11 +5,11 @@ use Rattle.edges.proofs.Found.{wider-yes, wider-no}
 use Rattle.edges.proofs.wider.Goals as goal
 
 pub width-requires : goal.width-requires
-width-requires c = fits_width (c.requires.box_in.each c.args.k c.requires.i_lt_n.1)
+width-requires c = fits_width (c.requires.x_in.each c.args.k c.requires.live.1)
 
 pub width-requires-2 : goal.width-requires-2
 width-requires-2 c =
-    fits_width (c.requires.box_in.each c.args.i c.requires.i_lt_n.0)
+    fits_width (c.requires.x_in.each c.args.i c.requires.live.0)
 
 pub returns-then-width : goal.returns-then-width
 returns-then-width c =
