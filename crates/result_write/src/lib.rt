@@ -12,7 +12,7 @@ ghost use Rattle.result_write.specs.Ready.{Ready};
 
 use checks::result::check_result;
 use digits::DIGITS;
-use faults::{Fault, Status, Written};
+use faults::{Checked, Fault, refused};
 use jobs::{Result, Verdict};
 use sizes::TEXT;
 use writing::{put_count_line, put_row_line, put_word_line};
@@ -34,16 +34,12 @@ fn put_result(buf: &mut [u8], r: Result) -> usize
     requires { Ready r }
     ensures { Wrote buf.old buf.new 0 result (show_result r) }
 {
-    let n = r.n;
-    let lo = r.lo;
-    let hi = r.hi;
-    let v = r.verdict;
     let a = put_count_line(buf, 0, b"job=", r.number);
     let b = put_count_line(buf, a, b"visit=", r.visit);
-    let c = put_verdict(buf, b, v);
+    let c = put_verdict(buf, b, r.verdict);
     let d = put_count_line(buf, c, b"steps=", r.steps);
-    let e = put_row_line(buf, d, b"lo=", lo, n, DIGITS);
-    put_row_line(buf, e, b"hi=", hi, n, DIGITS)
+    let e = put_row_line(buf, d, b"lo=", r.lo, r.n, DIGITS);
+    put_row_line(buf, e, b"hi=", r.hi, r.n, DIGITS)
 }
 
 // The same writer on a buffer of one byte measures the text. It need not where the room is that of any text.
@@ -60,33 +56,20 @@ fn fits(r: Result, room: usize) -> bool
 }
 
 // The text of a result whose check found nothing, for any buffer.
-pub fn write_ready(r: Result, out: &mut [u8]) -> Written
+pub fn write_ready(r: Result, out: &mut [u8]) -> Checked<usize>
     requires { check_result r ≡ Ok tt }
-    ensures { Leaves Ok tt (show_result r) out.old out.new result }
+    ensures { Leaves (Ok tt) (show_result r) out.old out.new result }
 {
     if !fits(r, out.len()) {
-        return Written {
-            status: Status::Refused(Fault::ShortBuffer, 0),
-            len: 0,
-        };
+        return refused(Fault::ShortBuffer, 0);
     }
-    let len = put_result(out, r);
-    Written {
-        status: Status::Done,
-        len,
-    }
+    Ok(put_result(out, r))
 }
 
 // A result's text, for any values and any buffer.
-pub fn write_result(r: Result, out: &mut [u8]) -> Written
+pub fn write_result(r: Result, out: &mut [u8]) -> Checked<usize>
     ensures { Leaves (check_result r) (show_result r) out.old out.new result }
 {
-    let status = check_result(r);
-    match status {
-        Status::Refused(f, line) => Written {
-            status: Status::Refused(f, line),
-            len: 0,
-        },
-        Status::Done => write_ready(r, out),
-    }
+    check_result(r)?;
+    write_ready(r, out)
 }

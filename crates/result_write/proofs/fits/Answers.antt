@@ -1,8 +1,7 @@
 -- `result_write::fits` meets its contract.
 use borrow.Author.Tests.{le-leb}
 use native.Mathlib.Omega.{arith}
-use native.Mathlib.Nat.{zero-add}
-use mathlib.Core.Path.{refl, sym, ◌∙◌}
+use mathlib.Core.Path.{sym}
 use lib.ListN.{length}
 use Rattle.result_form.specs.ResultShows.{show_result}
 use Rattle.result_form.proofs.Trips.{result-short}
@@ -13,6 +12,3 @@ returns-then-room-ge-TEXT c =
     let args = c.args in
     sym (le-leb (length (show_result args.r)) args.room
     (omega (arith, result-short args.r c.requires.few, c.if-room-ge-TEXT.true)))
-
-pub returns : goal.returns
-returns c = rw (c.put_result-len.ensures.next ∙ zero-add _) refl

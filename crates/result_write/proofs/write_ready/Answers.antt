@@ -15,17 +15,18 @@ fits-requires c = ready-done c.args.r c.requires
 pub returns-then-not-fits : goal.returns-then-not-fits
 returns-then-not-fits c =
     let args = c.args in
-    no_room (show_result args.r) args.out.now
+    rw c.refused.ensures
+    (no_room (show_result args.r) args.out.now
     (leb-false (length (show_result args.r)) (length args.out.now)
-    (sym c.fits.ensures ∙ c.if-not-fits.true))
+    (sym c.fits.ensures ∙ c.if-not-fits.true)))
 
-pub put_result-len-requires : goal.put_result-len-requires
-put_result-len-requires c = ready-done c.args.r c.requires
+pub put_result-requires : goal.put_result-requires
+put_result-requires c = ready-done c.args.r c.requires
 
 pub returns : goal.returns
 returns c =
     let args = c.args in
-    let wrote = c.put_result-len.ensures in
+    let wrote = c.put_result.ensures in
     let fits = leb-true (length (show_result args.r)) (length args.out.now)
     (sym c.fits.ensures ∙ c.if-not-fits.false) in
     rw (wrote.next ∙ zero-add (length (show_result args.r)))

@@ -1,19 +1,13 @@
 -- `result_write::write_result` meets its contract.
 use mathlib.Core.Path.{sym, ◌∙◌}
+use Rattle.std.proofs.lemmas.Result.{err_from_is_err_and}
 use Rattle.faults.proofs.Answer.{values-bad}
 use Rattle.result_form.specs.ResultShows.{show_result}
 use Rattle.result_write.proofs.write_result.Goals as goal
 
-pub write_ready-requires : goal.write_ready-requires
-write_ready-requires c = sym c.check_result-status.ensures ∙ c.in-Done.is
-
-pub returns-in-Refused : goal.returns-in-Refused
-returns-in-Refused c =
+pub returns-in_err-check_result : goal.returns-in_err-check_result
+returns-in_err-check_result c =
     let args = c.args in
-    rw (sym c.check_result-status.ensures ∙ c.in-Refused.is)
-    (values-bad (show_result args.r) args.out.now _ _)
-
-pub returns-in-Done : goal.returns-in-Done
-returns-in-Done c =
-    rw (sym c.check_result-status.ensures ∙ c.in-Done.is)
-    c.write_ready.ensures
+    let p = err_from_is_err_and c.from_residual.result c.from_residual.ensures.1 in
+    rw (sym c.check_result.ensures ∙ c.in_err-check_result.was, p.1, p.2)
+    (values-bad (show_result args.r) args.out.now _)
