@@ -7,9 +7,9 @@ use Rattle.sizes.specs.Sizes.{n_max, end_max, image_max}
 use Rattle.intervals.specs.Ranges.{InI}
 use Rattle.intervals.specs.Places.{side_at}
 use Rattle.faults.proofs.Laws.{fine-first, fine-next, both-fine, unless-fine, fine-unless, fine-line, line-fine}
-use Rattle.faults.proofs.Laws.{done_first, done_next}
+use Rattle.faults.proofs.Laws.{done_first, done_next, status-then}
 use Rattle.term_checks.proofs.RangeLaws.{all-within, within_all, all-ordered, ordered-all}
-use Rattle.faults.specs.Checks.{first_of}
+use Rattle.faults.specs.Checks.{first_of, and_then}
 use Rattle.checks.specs.Checks.{low_check, high_check, check_job}
 use Rattle.checks.proofs.CheckLaws.{unknowns-fine}
 use Rattle.slopes.specs.Ranges.{BoxIn}
@@ -17,12 +17,12 @@ use Rattle.checks.proofs.AcceptedLaws.{check_done}
 use Rattle.step.specs.Values.{side_of, box_of}
 use Rattle.step.proofs.Given.{box-at, box_in_lem}
 use Rattle.faults.specs.declared.Fault.{Fault}
-use Rattle.faults.specs.Checked.{Status, status_of}
+use Rattle.faults.specs.Checked.{status_of}
 use Rattle.jobs.specs.declared.Ends.{Ends}
 use Rattle.jobs.specs.declared.Job.{Job}
-use Rattle.one_step.specs.OneStep.{ends_check, box_check, image_status, image_by, gives_image}
-use Rattle.one_step.specs.OneStep.{decide_check, decide_status, moves_to, decided_by, gives_move}
-use Rattle.std.specs.Prelude.{Ok, Err}
+use Rattle.one_step.specs.OneStep.{ends_check, box_check, image_status, image_ends, gives_image}
+use Rattle.one_step.specs.OneStep.{decide_check, decide_status, moves_to, gives_move}
+use Rattle.std.specs.Prelude.{Ok}
 
 module _ (n B : ℕ) (e : Ends) where
   pub ends-in : ends_check n (pos B) e ≡ Ok tt → (k : ℕ) → k < n → InI B (side_of e k)
@@ -47,19 +47,11 @@ box-alike n x = refl
 
 pub image-status : (j : Job) (x : Ends) → status_of (gives_image j x) ≡ image_status j x
 unfolding gives_image
-image-status j x = by (image_status j x)
-  where
-    by : (st : Status) → (image_by st j x).status ≡ st
-    by (Ok tt) = refl
-    by (Err r) = refl
+image-status j x = status-then (image_status j x) (image_ends j x)
 
 pub decide-status : (n : ℕ) (x k : Ends) → status_of (gives_move n x k) ≡ decide_status n x k
-unfolding gives_move moves_to
-decide-status n x k = by (decide_status n x k)
-  where
-    by : (st : Status) → (decided_by st n x k).status ≡ st
-    by (Ok tt) = refl
-    by (Err r) = refl
+unfolding gives_move
+decide-status n x k = status-then (decide_status n x k) (moves_to n x k)
 
 -- a job and a box in which nothing was found
 module _ (j : Job) (x : Ends) (done : image_status j x ≡ Ok tt) where
@@ -82,8 +74,8 @@ module _ (n : ℕ) (x k : Ends) (fine : decide_check n x k ≡ Ok tt) where
   unfolding decide_check
   few = (unknowns-fine n (fine-first _ _ fine)).1
 
-  pub moves : gives_move n x k ≡ moves_to n x k
-  unfolding gives_move
+  pub moves : gives_move n x k ≡ Ok (moves_to n x k)
+  unfolding gives_move and_then
   moves = rw (line-fine 0 fine)
 
   ordered : (B : ℕ) (e : Ends) → ends_check n (pos B) e ≡ Ok tt → (i : ℕ) → i < n

@@ -1,6 +1,6 @@
 -- Document 02, P7: "Split the step: one operation gives K for a job and a box, the other takes X and K and gives the
 -- verdict or the next box." Places past n are not looked at, and come back zero.
-use Rattle.std.specs.Prelude.{ℕ, ℤ, pos, Ok, Err}
+use Rattle.std.specs.Prelude.{ℕ, ℤ, pos, Ok}
 use Rattle.sizes.specs.Sizes.{end_max, image_max}
 use Rattle.faults.specs.Checks.{bad_unless, first_of, on_line, and_then}
 use Rattle.term_checks.specs.Ranges.{all_within, all_ordered}
@@ -11,12 +11,11 @@ use Rattle.step.specs.Step.{image_box}
 use Rattle.step.specs.Decide.{decide_of}
 use Rattle.step.specs.Values.{box_of, ends_of, inverse_of}
 use Rattle.faults.specs.declared.Fault.{Fault}
-use Rattle.faults.specs.Checked.{Finding, Status}
+use Rattle.faults.specs.Checked.{Finding, Checked, Status, value_or}
 use Rattle.jobs.specs.declared.Ends.{Ends}
 use Rattle.jobs.specs.declared.Job.{Job}
 use Rattle.step.specs.declared.Move.{Move}
 use Rattle.step.specs.declared.Decision.{Decision}
-use Rattle.one_step.specs.declared.Imaged.{Imaged}
 use Rattle.one_step.specs.declared.Decided.{Decided}
 
 -- every end from -most to most, then "a low end above its high end"
@@ -44,12 +43,12 @@ unfoldable pub image_ends : Job → Ends → Ends
 image_ends j x =
     ends_of j.head.n (image_box j.head.n (equation_of j) (inverse_of j) (box_of j.head.n x))
 
-abbrev pub image_by : Status → Job → Ends → Imaged
-image_by (Ok tt) j x = record { status = Ok tt; ends = image_ends j x }
-image_by (Err r) j x = record { status = Err r; ends = zero_ends }
+unfoldable pub gives_image : Job → Ends → Checked Ends
+gives_image j x = and_then (image_status j x) (Ok (image_ends j x))
 
-unfoldable pub gives_image : Job → Ends → Imaged
-gives_image j x = image_by (image_status j x) j x
+-- the image of an answer; beside a refusal "all is zero"
+abbrev pub image_in : Checked Ends → Ends
+image_in = value_or zero_ends
 
 -- ---- "the other takes X and K and gives the verdict or the next box"
 
@@ -62,16 +61,15 @@ abbrev pub decide_status : ℕ → Ends → Ends → Status
 decide_status n x k = on_line (decide_check n x k) 0
 
 abbrev pub move_to : ℕ → Decision → Decided
-move_to n d = record { status = Ok tt; what = d.what; ends = ends_of n d.sides }
+move_to n d = record { what = d.what; ends = ends_of n d.sides }
 
 -- "K cut with X, the order of the three tests and the counts stay as they are."
 unfoldable pub moves_to : ℕ → Ends → Ends → Decided
 moves_to n x k = move_to n (decide_of n (box_of n x) (box_of n k))
 
-abbrev pub decided_by : Status → ℕ → Ends → Ends → Decided
-decided_by (Ok tt) n x k = moves_to n x k
-decided_by (Err r) n x k =
-    record { status = Err r; what = Move.None; ends = zero_ends }
+unfoldable pub gives_move : ℕ → Ends → Ends → Checked Decided
+gives_move n x k = and_then (decide_status n x k) (Ok (moves_to n x k))
 
-unfoldable pub gives_move : ℕ → Ends → Ends → Decided
-gives_move n x k = decided_by (decide_status n x k) n x k
+-- the same of an answer of this operation
+abbrev pub decided_in : Checked Decided → Decided
+decided_in = value_or (record { what = Move.None; ends = zero_ends })

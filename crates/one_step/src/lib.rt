@@ -12,48 +12,36 @@ ghost use Rattle.one_step.specs.OneStep.{ends_check, image_status, image_ends, g
 ghost use Rattle.one_step.specs.OneStep.{decide_check, moves_to, gives_move};
 
 use checks::job::{check_job, unknowns_check};
-use faults::{Fault, Finding, Status, bad_unless, first_of, is_bad, is_fine, on_line};
+use faults::{Checked, Fault, bad_unless, on_line};
 use intervals::Interval;
-use jobs::zero::zero_ends;
 use jobs::{Ends, Equation, Job};
+use slopes::Over;
 use sizes::{END, IMAGE, N};
 use step::{Move, values};
 use term_checks::ranges::{all_ordered, all_within};
 
-// Beside a fault the ends are all zero.
-#[derive(Clone, Copy)]
-pub struct Imaged {
-    pub status: Status,
-    pub ends: Ends,
-}
-
-// The box stands beside the enum, which holds no array. Beside a fault all is zero.
+// The box stands beside the enum, which holds no array.
 #[derive(Clone, Copy)]
 pub struct Decided {
-    pub status: Status,
     pub what: Move,
     pub ends: Ends,
 }
 
-fn ends_check(n: usize, e: Ends, most: i64) -> Finding
+#[tactic(auto, unfolding(crate::specs::OneStep::ends_check, faults::specs::Checks::first_of))]
+fn ends_check(n: usize, e: Ends, most: i64) -> Result<(), Fault>
     requires { n ≤ n_max }
     ensures { result ≡ ends_check n most e }
 {
-    let lo = e.lo;
-    let hi = e.hi;
-    let low = bad_unless(all_within(lo, n, most), Fault::Beyond);
-    let high = bad_unless(all_within(hi, n, most), Fault::Beyond);
-    let order = bad_unless(all_ordered(lo, hi, n), Fault::Crossed);
-    first_of(low, first_of(high, order))
+    bad_unless(all_within(e.lo, n, most), Fault::Beyond)?;
+    bad_unless(all_within(e.hi, n, most), Fault::Beyond)?;
+    bad_unless(all_ordered(e.lo, e.hi, n), Fault::Crossed)
 }
 
-fn image_status(j: Job, e: Ends) -> Status
+#[tactic(auto, unfolding(crate::specs::OneStep::image_status, faults::specs::Checks::and_then))]
+fn image_status(j: Job, e: Ends) -> Checked<()>
     ensures { result ≡ image_status j e }
 {
-    let own = check_job(j);
-    if is_bad(own) {
-        return own;
-    }
+    check_job(j)?;
     on_line(ends_check(j.head.n, e, END), 0)
 }
 
@@ -65,12 +53,9 @@ fn image_box(eqs: [Equation; N], c: [[i64; N]; N], x: [Interval; N], n: usize) -
     let mut f = [Interval { lo: 0, hi: 0 }; N];
     let mut s = [[Interval { lo: 0, hi: 0 }; N]; N];
     for i in 0..n {
-        let q = eqs[i];
-        let o = slopes::equation_over(q, m, x, n);
-        let value = o.value;
-        let row = o.slopes;
+        let Over { value, slopes } = slopes::equation_over(eqs[i], m, x, n);
         f[i] = value;
-        s[i] = row;
+        s[i] = slopes;
     }
     step::image(c, x, m, f, s, n)
 }
@@ -80,67 +65,48 @@ fn image_ends(j: Job, e: Ends) -> Ends
     ensures { result ≡ image_ends j e }
 {
     let n = j.head.n;
-    let inv = j.inv;
     let eqs = systems::equations(j);
-    let c = values::matrix(inv, n);
+    let c = values::matrix(j.inv, n);
     let x = values::box_of(e, n);
     let k = image_box(eqs, c, x, step::bounded(n));
     values::ends_of(k, n)
 }
 
 // "one operation gives K for a job and a box"
-pub fn image(j: Job, e: Ends) -> Imaged
+#[tactic(auto, unfolding(crate::specs::OneStep::gives_image, faults::specs::Checks::and_then))]
+pub fn image(j: Job, e: Ends) -> Checked<Ends>
     ensures { result ≡ gives_image j e }
 {
-    let status = image_status(j, e);
-    match status {
-        Status::Done => Imaged {
-            status: Status::Done,
-            ends: image_ends(j, e),
-        },
-        Status::Refused(fault, line) => Imaged {
-            status: Status::Refused(fault, line),
-            ends: zero_ends(),
-        },
-    }
+    image_status(j, e)?;
+    Ok(image_ends(j, e))
 }
 
-fn decide_check(n: usize, x: Ends, k: Ends) -> Finding
+#[tactic(auto, unfolding(crate::specs::OneStep::decide_check, faults::specs::Checks::first_of))]
+fn decide_check(n: usize, x: Ends, k: Ends) -> Result<(), Fault>
     ensures { result ≡ decide_check n x k }
 {
-    let unknowns = unknowns_check(n);
-    if is_fine(unknowns) {
-        let own = ends_check(n, x, END);
-        return first_of(own, ends_check(n, k, IMAGE));
-    }
-    unknowns
+    unknowns_check(n)?;
+    ends_check(n, x, END)?;
+    ends_check(n, k, IMAGE)
 }
 
+#[tactic(auto, unfolding(crate::specs::OneStep::moves_to))]
 fn moved(n: usize, x: Ends, k: Ends) -> Decided
     requires { n ≤ n_max }
     ensures { result ≡ moves_to n x k }
 {
     let d = step::decide(values::box_of(x, n), values::box_of(k, n), n);
-    let what = d.what;
-    let sides = d.sides;
     Decided {
-        status: Status::Done,
-        what: what,
-        ends: values::ends_of(sides, n),
+        what: d.what,
+        ends: values::ends_of(d.sides, n),
     }
 }
 
 // "the other takes X and K and gives the verdict or the next box"
-pub fn decide(n: usize, x: Ends, k: Ends) -> Decided
+#[tactic(auto, unfolding(crate::specs::OneStep::gives_move, faults::specs::Checks::and_then))]
+pub fn decide(n: usize, x: Ends, k: Ends) -> Checked<Decided>
     ensures { result ≡ gives_move n x k }
 {
-    let status = on_line(decide_check(n, x, k), 0);
-    match status {
-        Status::Done => moved(n, x, k),
-        Status::Refused(fault, line) => Decided {
-            status: Status::Refused(fault, line),
-            what: Move::None,
-            ends: zero_ends(),
-        },
-    }
+    on_line(decide_check(n, x, k), 0)?;
+    Ok(moved(n, x, k))
 }

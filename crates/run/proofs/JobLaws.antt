@@ -1,4 +1,4 @@
--- The code's lists of an accepted job run as the job does, and the two answers of a run.
+-- The code's lists of an accepted job run as the job does, and what its run answers.
 use mathlib.Core.Path.{◌≡◌, refl, sym, ap, ap₂, fun_ext, ◌∙◌}
 use mathlib.Core.List.{List}
 use Prim.Native.Nat.{ℕ, zero, suc, ◌+◌}
@@ -9,14 +9,12 @@ use Rattle.lists.specs.Loops.{tab}
 use Rattle.intervals.specs.Places.{entry_at}
 use Rattle.jobs.specs.Places.{row_at, equation_at}
 use Rattle.checks.specs.Checks.{check_job}
-use Rattle.jobs.specs.Zero.{no_result}
 use Rattle.systems.specs.Kinds.{equations_of}
 use Rattle.intervals.specs.declared.Interval.{Interval}
 use Rattle.jobs.specs.declared.Equation.{Equation}
 use Rattle.jobs.specs.declared.Job.{Job}
 use Rattle.jobs.specs.declared.Result.{Result}
-use Rattle.faults.specs.declared.Fault.{Fault}
-use Rattle.faults.specs.Checked.{refused}
+use Rattle.faults.specs.Checks.{and_then}
 use Rattle.step.specs.declared.Decision.{Decision}
 use Rattle.step.specs.Step.{image_box}
 use Rattle.step.specs.Decide.{decide_of, step_of}
@@ -46,14 +44,7 @@ pub run-made : (j : Job) → check_job j ≡ Ok tt → {eqs : List Equation} {c 
 run-made j done made-eqs made-c x allowance =
     run-cong j.head.n _ _ _ _ (image-made j done made-eqs made-c) allowance 0 x
 
--- the two answers of a run
-module _ (j : Job) {r : Result} where
-  pub answer-done : check_job j ≡ Ok tt → r ≡ result_of j (outcome_of j)
-      → Ok r ≡ run_job j
-  unfolding run_job
-  answer-done e p = rw (e, p)
-
-  pub answer-refused : (f : Fault) (line : ℕ) → check_job j ≡ refused f line → r ≡ no_result
-      → record { status = refused f line; result = r } ≡ run_job j
-  unfolding run_job
-  answer-refused f line e p = rw (e, p)
+-- what the run of an accepted job answers
+pub answer-done : (j : Job) {r : Result} → check_job j ≡ Ok tt → r ≡ result_of j (outcome_of j) → Ok r ≡ run_job j
+unfolding run_job and_then
+answer-done j e p = rw (e, p)

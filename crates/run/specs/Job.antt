@@ -1,15 +1,14 @@
 -- Document 01, the run of a job: its values are checked first, and an accepted job answers what its steps give.
-use Rattle.std.specs.Prelude.{List, ℕ, Ok, Err}
+use Rattle.std.specs.Prelude.{List, ℕ, Ok}
 use Rattle.checks.specs.Checks.{check_job}
 use Rattle.systems.specs.Kinds.{equation_of}
-use Rattle.jobs.specs.Zero.{no_result}
 use Rattle.intervals.specs.declared.Interval.{Interval}
 use Rattle.jobs.specs.declared.Job.{Job}
 use Rattle.jobs.specs.declared.Result.{Result}
-use Rattle.faults.specs.Checked.{Status}
+use Rattle.faults.specs.Checks.{and_then}
+use Rattle.faults.specs.Checked.{Checked, Status}
 use Rattle.step.specs.Values.{low_ends, high_ends, start_of, inverse_of}
 use Rattle.run.specs.declared.Outcome.{Outcome}
-use Rattle.run.specs.declared.Answer.{Answer}
 use Rattle.run.specs.Run.{run_of}
 
 -- the run of a job from a box on, with an allowance
@@ -32,10 +31,9 @@ result_of j o = record {
   hi = high_ends j.head.n o.sides;
 }
 
-abbrev pub answer_by : Status → Job → Answer
-answer_by (Ok tt) j = Ok (result_of j (outcome_of j))
-answer_by (Err r) j = record { status = Err r; result = no_result }
+abbrev pub answer_by : Status → Job → Checked Result
+answer_by st j = and_then st (Ok (result_of j (outcome_of j)))
 
 -- "Values handed over without text get the same checks in the same line order."
-unfoldable pub run_job : Job → Answer
+unfoldable pub run_job : Job → Checked Result
 run_job j = answer_by (check_job j) j

@@ -11,11 +11,12 @@ ghost use Rattle.step.specs.Ranges.{StepIn};
 ghost use Rattle.run.specs.Run.{outcome, run_of};
 ghost use Rattle.run.specs.Job.{run_from, outcome_of, result_of, run_job};
 
-use faults::Status;
+use checks::job::check_job;
+use faults::Checked;
 use intervals::Interval;
-use jobs::zero::no_result;
-use jobs::{Equation, Job, Result, Verdict};
+use jobs::{Ends, Equation, Job, Result, Verdict};
 use sizes::N;
+use slopes::Over;
 use step::{Move, values};
 
 #[derive(Clone, Copy)]
@@ -25,20 +26,13 @@ pub struct Outcome {
     pub sides: [Interval; N],
 }
 
-// Beside a fault the result is all zero.
-#[derive(Clone, Copy)]
-pub struct Answer {
-    pub status: Status,
-    pub result: Result,
-}
-
 fn ended(verdict: Verdict, steps: u64, sides: [Interval; N]) -> Outcome
     ensures { result ≡ outcome verdict steps sides }
 {
     Outcome {
-        verdict: verdict,
-        steps: steps,
-        sides: sides,
+        verdict,
+        steps,
+        sides,
     }
 }
 
@@ -61,19 +55,15 @@ fn run_steps(
     for done in 0..allowance {
         let m = step::middles(x, n);
         for i in 0..n {
-            let q = eqs[i];
-            let o = slopes::equation_over(q, m, x, n);
-            let value = o.value;
-            let row = o.slopes;
+            let Over { value, slopes } = slopes::equation_over(eqs[i], m, x, n);
             f[i] = value;
-            s[i] = row;
+            s[i] = slopes;
         }
         let k = step::image(c, x, m, f, s, n);
         let d = step::decide(x, k, n);
-        let what = d.what;
         let next = d.sides;
         let steps = done + 1;
-        match what {
+        match d.what {
             Move::None => return ended(Verdict::None, steps, next),
             Move::Unique => return ended(Verdict::Unique, steps, next),
             Move::Stalled => return ended(Verdict::Stalled, steps, next),
@@ -106,30 +96,26 @@ pub fn run_from(j: Job, x: [Interval; N], allowance: u64) -> Outcome
     ensures { result ≡ run_from j x allowance }
 {
     let n = j.head.n;
-    let inv = j.inv;
     let eqs = systems::equations(j);
-    let c = values::matrix(inv, n);
+    let c = values::matrix(j.inv, n);
     run_system(eqs, c, x, n, allowance)
 }
 
+#[tactic(auto, unfolding(crate::specs::Job::result_of))]
 pub fn result_of(j: Job, o: Outcome) -> Result
     requires { j.head.n ≤ n_max }
     ensures { result ≡ result_of j o }
 {
     let n = j.head.n;
-    let x = o.sides;
-    let ends = values::ends_of(x, n);
-    let lo = ends.lo;
-    let hi = ends.hi;
-    let verdict = o.verdict;
+    let Ends { lo, hi } = values::ends_of(o.sides, n);
     Result {
         number: j.head.number,
         visit: 0,
-        verdict: verdict,
+        verdict: o.verdict,
         steps: o.steps,
-        n: n,
-        lo: lo,
-        hi: hi,
+        n,
+        lo,
+        hi,
     }
 }
 
@@ -138,25 +124,15 @@ pub fn accepted(j: Job) -> Result
     requires { check_job j ≡ Ok tt }
     ensures { result ≡ result_of j (outcome_of j) }
 {
-    let ends = j.ends;
-    let x = values::box_of(ends, j.head.n);
-    let o = run_from(j, x, j.steps);
-    result_of(j, o)
+    let x = values::box_of(j.ends, j.head.n);
+    result_of(j, run_from(j, x, j.steps))
 }
 
 // The run of a job. Every value is taken: its values are checked first, in the order of its text's lines.
-pub fn run(j: Job) -> Answer
+#[tactic(auto, unfolding(crate::specs::Job::run_job, faults::specs::Checks::and_then))]
+pub fn run(j: Job) -> Checked<Result>
     ensures { result ≡ run_job j }
 {
-    let status = checks::job::check_job(j);
-    match status {
-        Status::Done => Answer {
-            status: Status::Done,
-            result: accepted(j),
-        },
-        Status::Refused(fault, line) => Answer {
-            status: Status::Refused(fault, line),
-            result: no_result(),
-        },
-    }
+    check_job(j)?;
+    Ok(accepted(j))
 }

@@ -8,8 +8,8 @@ use Rattle.run.proofs.accepted.Goals as goal
 pub box_of-x-requires : goal.box_of-x-requires
 box_of-x-requires c = (check_done c.args.j c.requires).few
 
-pub run_from-o-requires : goal.run_from-o-requires
-run_from-o-requires c = record {
+pub run_from-requires : goal.run_from-requires
+run_from-requires c = record {
   j_value = c.requires;
   box_in = rw c.box_of-x.ensures (start-in (check_done c.args.j c.requires));
 }
@@ -21,4 +21,4 @@ pub returns : goal.returns
 unfolding outcome_of
 returns c =
     let j = c.args.j in
-    c.result_of.ensures ∙ ap (result_of j) (rw c.box_of-x.ensures at c.run_from-o.ensures)
+    c.result_of.ensures ∙ ap (result_of j) (rw c.box_of-x.ensures at c.run_from.ensures)

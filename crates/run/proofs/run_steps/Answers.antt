@@ -54,35 +54,17 @@ middles-m-requires c = c.loop-done.invariant.1.0.box
 pub loop-i-init : goal.loop-i-init
 loop-i-init c = filled_none _ _ _ _ c.loop-done.invariant.0.1
 
-pub offset_bounds-eqs-i : goal.offset_bounds-eqs-i
-offset_bounds-eqs-i c = let p = c.loop-done.invariant.1.0.box.places in omega arith
-
-pub bounds-eqs-i : goal.bounds-eqs-i
-bounds-eqs-i c = let p = c.loop-done.invariant.1.0.box.places in omega arith
-
-pub equation_over-o-requires : goal.equation_over-o-requires
-equation_over-o-requires c =
+pub equation_over-requires : goal.equation_over-requires
+equation_over-requires c =
     let h = c.loop-done.invariant.1.0 in record {
-      box_in = m-in h c.middles-m.ensures;
-      box_in_2 = h.box;
-      equation_in = h.system.each c.loop-i.i c.loop-i-test.true;
+      m_in = m-in h c.middles-m.ensures;
+      x_in = h.box;
+      q_in = h.system.each c.loop-i.i c.loop-i-test.true;
     }
-
-pub offset_bounds-f-i : goal.offset_bounds-f-i
-offset_bounds-f-i c = omega (arith, c.loop-done.invariant.1.0.box.places)
-
-pub bounds-f-i : goal.bounds-f-i
-bounds-f-i c = omega (arith, c.loop-done.invariant.1.0.box.places)
-
-pub offset_bounds-s-i : goal.offset_bounds-s-i
-offset_bounds-s-i c = omega (arith, c.loop-done.invariant.1.0.box.places)
-
-pub bounds-s-i : goal.bounds-s-i
-bounds-s-i c = omega (arith, c.loop-done.invariant.1.0.box.places)
 
 pub loop-i-preserved : goal.loop-i-preserved
 loop-i-preserved c =
-    filled_more _ _ _ _ c.loop-i.invariant c.loop-i-test.true c.equation_over-o.ensures
+    filled_more _ _ _ _ c.loop-i.invariant c.loop-i-test.true c.equation_over.ensures
 
 -- K
 pub image-k-requires : goal.image-k-requires
