@@ -41,10 +41,6 @@ unfolding show_signed
 number_short k (pos m) = omega (arith, show-short k m)
 number_short k (negsuc m) = omega (arith, show-short k (suc m))
 
-pub show-none : (k m : ℕ) → k ≡ 0 → show_magnitude k m ≡ []
-unfolding show_magnitude
-show-none k m e = rw e
-
 -- a tenth of m against the power below
 pub tenth-below : (j m : ℕ) → m < 10 ^ suc j → m / 10 < 10 ^ j
 tenth-below j m h = (div-lt_iff_lt-mul {k = 10} {x = m} {y = 10 ^ j} (lit< tt)).1 (rw pow-suc at h)
