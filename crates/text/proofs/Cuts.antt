@@ -3,7 +3,7 @@
 use Prim.Native.Nat.{ℕ, zero, suc, ◌+◌, ◌-◌, ◌≤◌, ◌<◌}
 use native.Mathlib.Omega.{arith}
 use native.Mathlib.Numerals.{add-one}
-use mathlib.Core.Path.{◌≡◌, refl, sym, ap, ◌∙◌}
+use mathlib.Core.Path.{◌≡◌, refl, ◌∙◌}
 use mathlib.Core.List.{List, [], ◌∷◌, ◌++◌}
 use lib.ListN.{length, take, drop, get_or, length-drop, drop_of_length-le}
 use lib.Seq.{take-suc, drop-cons, get_or-drop}
@@ -94,20 +94,3 @@ module _ {S : Type 0} (step : S → List ℕ → S) (sep : ℕ) where
 -- the last piece too, which no separator ends
 abbrev pub closed : {S : Type 0} → (S → List ℕ → S) → Cut S → S
 closed step k = step k.st k.held
-
--- what a loop over pieces leaves to do: the pieces from a on take acc to the whole, and past the end of the text there
--- are none
-pub record Left {S : Type 0} (step : S → List ℕ → S) (sep : ℕ) (s : List ℕ) (a : ℕ) (acc whole : S) : Type 0 where
-  pub more : a ≤ length s → closed step (feeds step sep (fresh acc) (drop a s)) ≡ whole
-  pub none : length s < a → acc ≡ whole
-
-module _ {S : Type 0} (step : S → List ℕ → S) (sep : ℕ) (s : List ℕ) (whole : S) where
-  pub left-next : (acc : S) (a e : ℕ) → a ≤ length s → PieceEnd s sep a e → Left step sep s a acc whole
-      → Left step sep s (e + 1) (step acc (take (e - a) (drop a s))) whole
-  left-next acc a e h p l =
-      let fed = ap (closed step) (held step sep s acc a e p) in
-      record {
-        more = λ k. sym (ap (closed step) (piece step sep s acc a e p (omega arith))) ∙ l.more h;
-        none =
-            λ k. sym (ap (closed step) (all-fed step sep s (at_part acc s a e) e (omega arith))) ∙ sym fed ∙ l.more h;
-      }

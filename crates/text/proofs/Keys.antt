@@ -4,7 +4,7 @@ use native.Mathlib.Omega.{arith}
 use mathlib.Core.Path.{◌≡◌, refl, ap, ap₂, sym, ◌∙◌}
 use mathlib.Core.List.{List, [], ◌∷◌, ◌++◌, append-nil}
 use mathlib.Core.Bool.{Bool, true, false, cond, ◌&&◌, false≢true}
-use lib.ListN.{length, drop, length-drop, drop_of_length-le}
+use lib.ListN.{length, drop, drop_of_length-le}
 use lib.Seq.{drop-append_seam}
 use lib.Dec.{eqb}
 use borrow.Author.Tests.{eq-eqb, eqb-true}
@@ -40,14 +40,6 @@ same-was w l e =
     let p = both (eqb (length l) (length w)) (starts_with w l) e in
     let n : length l ≤ length w = omega (arith, eqb-true (length l) (length w) p.0) in
     sym (append-nil w) ∙ ap (λ (x : List ℕ). w ++ x) (sym (drop_of_length-le l n)) ∙ starts-was w l p.1
-
-cond_short : (t : Bool) (k : ℕ) (l : List ℕ) → length (cond t (drop k l) []) ≤ length l
-cond_short true k l = omega (arith, length-drop k l)
-cond_short false k l = omega arith
-
-pub body-short : (key l : List ℕ) → length (body_of key l) ≤ length l
-unfolding body_of
-body-short key l = cond_short (starts_with key l) (length key) l
 
 pub body_own : (key b : List ℕ) → body_of key (key ++ b) ≡ b
 unfolding body_of
