@@ -1,8 +1,8 @@
 -- What the answers of tests say.
 use Prim.Native.Nat.{ℕ, ◌≤◌, ◌<◌}
-use mathlib.Core.Path.{◌≡◌, refl, sym}
+use mathlib.Core.Path.{◌≡◌, refl}
 use mathlib.Core.List.{List}
-use mathlib.Core.Bool.{Bool, true, false, not, ◌&&◌, true≢false, false≢true}
+use mathlib.Core.Bool.{Bool, true, false, ◌&&◌, true≢false, false≢true}
 use lib.ListN.{length, get_or}
 use lib.Dec.{leb}
 use borrow.Author.Tests.{lt-ltb, le-ltb, eq-eqb, eqb-true, le-leb, leb-true}
@@ -12,14 +12,6 @@ use Rattle.reading.specs.Places.{line_end}
 use Rattle.scan.specs.Fields.{is_at}
 use Rattle.digits.specs.Digits.{is_digit}
 use Rattle.scan.specs.Lines.{ended_and}
-
-pub no-not : (b : Bool) → not b ≡ true → b ≡ false
-no-not true e = sym e
-no-not false e = refl
-
-pub yes-not : (b : Bool) → not b ≡ false → b ≡ true
-yes-not true e = refl
-yes-not false e = sym e
 
 both : (a b : Bool) → (a && b) ≡ true → (a ≡ true) × (b ≡ true)
 both true b e = (refl, e)
