@@ -14,7 +14,8 @@ use Rattle.run.specs.Run.{outcome}
 use Rattle.run.specs.Job.{result_of, run_job}
 use Rattle.jobs.specs.declared.Job.{Job}
 use Rattle.jobs.specs.declared.Verdict.{Verdict}
-use Rattle.run.specs.declared.Answer.{Answer}
+use Rattle.jobs.specs.declared.Result.{Result}
+use Rattle.faults.specs.Checked.{Checked}
 use Rattle.examples.specs.Jobs.{minus, job41, job7, job9, job11, job12, job304}
 
 -- what an example speaks of
@@ -22,7 +23,7 @@ pub data Thing : Type 0 where
   interval : Interval → Thing
   number : ℤ → Thing
   pair : Thing → Thing → Thing
-  answer : Answer → Thing
+  answer : Checked Result → Thing
 
 pub record Example : Type 0 where
   pub computed : Thing

@@ -7,8 +7,8 @@ use mathlib.Core.List.{List, ◌++◌}
 use lib.IntN.{ℤ, nat_abs}
 use lib.ListN.{length, drop}
 use lib.Seq.{sets, sets-eq}
-use Rattle.faults.specs.declared.Fault.{Fault}
-use Rattle.faults.specs.Checked.{refused}
+use Rattle.faults.specs.declared.Refusal.{Refusal}
+use Rattle.faults.specs.Checks.{and_then}
 use Rattle.faults.proofs.Laws.{done_first, done_next}
 use Rattle.jobs.specs.declared.Job.{Job}
 use Rattle.checks.specs.Checks.{check_job}
@@ -19,7 +19,7 @@ use Rattle.halving.specs.Halving.{depth_status, halve_status, Halves}
 use Rattle.halving.proofs.Parts.{boxes-few}
 use Rattle.halving.proofs.Lists.{numbers-length}
 use Rattle.halving.proofs.Refusals.{room-holds}
-use Rattle.std.specs.Prelude.{Ok}
+use Rattle.std.specs.Prelude.{Ok, Err}
 
 pub few-boxes : (j : Job) (depth : ℕ) → length (boxes_of j depth) ≤ 2 ^ depth
 unfolding boxes_of
@@ -50,7 +50,8 @@ module _ (j : Job) (depth : ℤ) (old : List ℤ) where
   bs = boxes_of j (nat_abs depth)
 
   pub halves-done : {new : List ℤ} {r : ℕ} → halve_status j depth (length old) ≡ Ok tt
-      → Lists j.head.n old new 0 r bs → Halves j depth old new (record { status = Ok tt; boxes = r })
+      → Lists j.head.n old new 0 r bs → Halves j depth old new (Ok r)
+  unfolding and_then
   halves-done e h =
       let room = enough-room j depth (length old) e in
       let size = numbers-length j.head.n bs in
@@ -60,6 +61,6 @@ module _ (j : Job) (depth : ℤ) (old : List ℤ) where
             (omega (arith, few-boxes j (nat_abs depth), room, size)));
       }
 
-  pub halves-refused : (f : Fault) (line : ℕ) → halve_status j depth (length old) ≡ refused f line
-      → Halves j depth old old (record { status = refused f line; boxes = 0 })
-  halves-refused f line e = record { answer = rw e refl; list = rw e refl }
+  pub halves-refused : (r : Refusal) → halve_status j depth (length old) ≡ Err r → Halves j depth old old (Err r)
+  unfolding and_then
+  halves-refused r e = record { answer = rw e refl; list = rw e refl }

@@ -1,16 +1,14 @@
--- The refusals, as the code's tests leave them.
+-- The refusals, as the code's tests leave them, and what is known where nothing is refused.
 use Prim.Native.Nat.{ℕ, ◌*◌, ◌/◌, ◌%◌, ◌^◌, ◌≤◌, ◌<◌}
 use native.Mathlib.Nat.{one-mul}
 use native.Mathlib.Omega.{arith}
 use mathlib.Core.Path.{◌≡◌, refl, sym, ◌∙◌}
 use mathlib.Core.Bool.{true, false, true≢false}
-use lib.Dec.{T, leb}
+use lib.Dec.{leb}
 use lib.IntN.{ℤ, pos, negsuc, nat_abs}
 use lib.Pow.{shl_exact}
-use lib.Signed.{lt_z, non_neg}
-use mir.Syntax.{w64}
-use mir.Val.{Fits, SFits}
-use borrow.Author.Tests.{ltb-true, le-ltb, leb-true, le-leb, lt-leb}
+use lib.Signed.{lt_z}
+use borrow.Author.Tests.{ltb-true, leb-true, le-leb, lt-leb}
 use Rattle.sizes.specs.Sizes.{depth_max}
 use Rattle.faults.specs.Checks.{bad_unless, on_line}
 use Rattle.faults.specs.declared.Fault.{Fault}
@@ -47,17 +45,7 @@ module _ (depth : ℤ) where
   unfolding depth_status
   in-range e = unless-fine (depth_in depth) Fault.Steps (fine-line _ 0 e)
 
--- as a number without a sign
-pub depth-cast : (depth : ℤ) → SFits w64 depth → lt_z depth (pos 0) ≡ false
-    → T (non_neg depth) × Fits w64 (nat_abs depth)
-depth-cast (pos d) f t = (tt, record { fits = omega (arith, f.sfits) })
-depth-cast (negsuc d) f t = absurd (true≢false t)
-
 -- a depth that is not refused
-pub depth-counted : (depth : ℤ) → depth_status depth ≡ Ok tt → lt_z depth (pos 0) ≡ false
-depth-counted (pos d) e = le-ltb d 0 (omega arith)
-depth-counted (negsuc d) e = absurd (true≢false (sym (in-range (negsuc d) e)))
-
 pub depth-few : (depth : ℤ) → depth_status depth ≡ Ok tt → nat_abs depth ≤ depth_max
 depth-few (pos d) e = leb-true d depth_max (in-range (pos d) e)
 depth-few (negsuc d) e = absurd (true≢false (sym (in-range (negsuc d) e)))
@@ -66,14 +54,6 @@ depth-few (negsuc d) e = absurd (true≢false (sym (in-range (negsuc d) e)))
 module _ (depth room : ℕ) where
   pub shifted : depth ≤ depth_max → (1 * 2 ^ depth) % 2 ^ 64 ≡ 2 ^ depth
   shifted l = shl_exact 1 depth 64 (omega arith) (omega arith) ∙ one-mul (2 ^ depth)
-
-  pub room-enough : 2 ^ depth ≤ room / listed_places → Ok tt ≡ room_status depth room
-  unfolding room_status bad_unless on_line
-  room-enough h = rw (le-leb (2 ^ depth) (room / listed_places) h)
-
-  pub room-short : room / listed_places < 2 ^ depth → refused Fault.ShortBuffer 0 ≡ room_status depth room
-  unfolding room_status bad_unless on_line
-  room-short h = rw (lt-leb (2 ^ depth) (room / listed_places) h)
 
   pub room-holds : room_status depth room ≡ Ok tt → listed_places * 2 ^ depth ≤ room
   unfolding room_status

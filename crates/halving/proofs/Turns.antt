@@ -24,6 +24,7 @@ use Rattle.runs.proofs.Runs.{run_length}
 use Rattle.runs.proofs.Left.{step_left}
 use Rattle.halving.specs.declared.Part.{Part}
 use Rattle.halving.specs.declared.Returned.{Returned}
+use Rattle.halving.specs.declared.Shared.{Shared}
 use Rattle.halving.specs.Boxes.{listed_as, boxes_by, boxes_from}
 use Rattle.halving.specs.Parts.{run_by, ran_as}
 use Rattle.halving.specs.Lists.{listed_places, Lists, ListsIn}
@@ -31,11 +32,13 @@ use Rattle.halving.proofs.Parts.{boxes-dropped, boxes-unique, boxes-open, cut_le
 use Rattle.halving.proofs.Lists.{lists-none, lists-append, lists_length, high-room}
 use Rattle.std.specs.Prelude.{Ok}
 
-module _ {eqs : List Equation} {c : List (List ℤ)} {n : ℕ} {x : List Interval} {depth room first : ℕ}
-    (asked : ListsIn eqs c n x depth room first) (steps : ℕ) {r : Returned}
-    (made : r ≡ ran_as (run_by eqs c n steps x) n depth) where
+module _ {s : Shared} {x : List Interval} {depth room first : ℕ} (asked : ListsIn s x depth room first) {r : Returned}
+    (made : r ≡ ran_as (run_by s x) s.n depth) where
+  abbrev n : ℕ
+  n = s.n
+
   abbrev run : List Interval → Outcome
-  run = run_by eqs c n steps
+  run = run_by s
 
   part-is : {p : Part} → r.part ≡ p → (ran_as (run x) n depth).part ≡ p
   part-is e = sym (ap (λ (r : Returned). r.part) made) ∙ e
@@ -45,14 +48,14 @@ module _ {eqs : List Equation} {c : List (List ℤ)} {n : ℕ} {x : List Interva
 
   -- ---- the halves
   pub returned-in : BoxIn n (side_at r.sides)
-  returned-in = rw sides-are (step_left x asked.step steps)
+  returned-in = rw sides-are (step_left x asked.step s.steps)
 
   returned-length : length r.sides ≡ n_max
-  returned-length = rw sides-are (run_length n (equation_at eqs) (entry_at c) steps 0 x asked.size)
+  returned-length = rw sides-are (run_length n (equation_at s.eqs) (entry_at s.c) s.steps 0 x asked.size)
 
   -- a half with its own depth and room
   half-asked : (half : List Interval) {deep rest at : ℕ} → BoxIn n (side_at half) → length half ≡ n_max
-      → listed_places * (at + 2 ^ deep) ≤ rest → ListsIn eqs c n half deep rest at
+      → listed_places * (at + 2 ^ deep) ≤ rest → ListsIn s half deep rest at
   half-asked half box size enough = record {
     step = record { system = asked.step.system; inverse = asked.step.inverse; box = box };
     some = asked.some;
@@ -61,13 +64,13 @@ module _ {eqs : List Equation} {c : List (List ℤ)} {n : ℕ} {x : List Interva
   }
 
   pub low-asked : {half : List Interval} {deep rest at : ℕ} → half ≡ low_half n r.sides
-      → listed_places * (at + 2 ^ deep) ≤ rest → ListsIn eqs c n half deep rest at
+      → listed_places * (at + 2 ^ deep) ≤ rest → ListsIn s half deep rest at
   low-asked {half} e =
       half-asked half (rw e (low-in r.sides asked.some returned-length returned-in))
       (rw e (low-length n r.sides returned-length))
 
   pub high-asked : {half : List Interval} {deep rest at : ℕ} → half ≡ high_half n r.sides
-      → listed_places * (at + 2 ^ deep) ≤ rest → ListsIn eqs c n half deep rest at
+      → listed_places * (at + 2 ^ deep) ≤ rest → ListsIn s half deep rest at
   high-asked {half} e =
       half-asked half (rw e (high-in r.sides asked.some returned-length returned-in))
       (rw e (high-length n r.sides returned-length))
@@ -105,10 +108,14 @@ room-behind run low depth {n} {at} {next} l room h =
     rw (lists_length n h)
     (high-room at next depth _ l (omega (arith, h.next, boxes-few run n (depth - 1) low)) room)
 
--- what is made of a job lists the boxes of the job
+-- what is made of a job
+abbrev pub shared_of : Job → List Equation → List (List ℤ) → Shared
+shared_of j eqs c = record { eqs = eqs; c = c; n = j.head.n; steps = j.steps }
+
+-- lists the boxes of the job
 pub job-boxes : (j : Job) → check_job j ≡ Ok tt → {eqs : List Equation} {c : List (List ℤ)}
     → eqs ≡ equations_of j → c ≡ tab n_max j.head.n (replicate n_max (pos 0)) (row_at j.inv) → (depth : ℕ)
-    → (x : List Interval) → boxes_by (run_by eqs c j.head.n j.steps) j.head.n depth x ≡ boxes_from j depth x
+    → (x : List Interval) → boxes_by (run_by (shared_of j eqs c)) j.head.n depth x ≡ boxes_from j depth x
 job-boxes j checked made-eqs made-c depth x =
     ap (λ (run : List Interval → Outcome). boxes_by run j.head.n depth x)
     (fun_ext (λ y. run-made j checked made-eqs made-c y j.steps))

@@ -4,10 +4,9 @@ use Rattle.std.specs.Prelude.{Ok, Err}
 use Rattle.sizes.specs.Sizes.{depth_max}
 use Rattle.faults.specs.Checks.{and_then, bad_unless, on_line}
 use Rattle.faults.specs.declared.Fault.{Fault}
-use Rattle.faults.specs.Checked.{Status}
+use Rattle.faults.specs.Checked.{Checked, Status}
 use Rattle.jobs.specs.declared.Job.{Job}
 use Rattle.checks.specs.Checks.{check_job}
-use Rattle.halving.specs.declared.Halved.{Halved}
 use Rattle.halving.specs.Boxes.{boxes_of}
 use Rattle.halving.specs.Lists.{listed_places, numbers_of}
 
@@ -28,17 +27,13 @@ room_status depth room = on_line (bad_unless (leb (2 ^ depth) (room / listed_pla
 unfoldable pub halve_status : Job → ℤ → ℕ → Status
 halve_status j depth room = and_then (check_job j) (and_then (depth_status depth) (room_status (nat_abs depth) room))
 
-abbrev pub halved_by : Status → ℕ → Halved
-halved_by (Ok tt) count = record { status = Ok tt; boxes = count }
-halved_by (Err r) count = record { status = Err r; boxes = 0 }
-
 -- "the list is untouched by any of them, and past its last listed box always"
 abbrev pub list_after : Status → List ℤ → List ℤ → List ℤ
 list_after (Ok tt) numbers old = numbers ++ drop (length numbers) old
 list_after (Err r) numbers old = old
 
--- a job is halved into the list `old`
-pub record Halves (j : Job) (depth : ℤ) (old new : List ℤ) (r : Halved) : Type 0 where
-  pub answer : r ≡ halved_by (halve_status j depth (length old)) (length (boxes_of j (nat_abs depth)))
+-- a job is halved into the list `old`, and how many boxes are listed
+pub record Halves (j : Job) (depth : ℤ) (old new : List ℤ) (r : Checked ℕ) : Type 0 where
+  pub answer : r ≡ and_then (halve_status j depth (length old)) (Ok (length (boxes_of j (nat_abs depth))))
   pub list : new ≡ list_after (halve_status j depth (length old))
       (numbers_of j.head.n (boxes_of j (nat_abs depth))) old

@@ -5,10 +5,10 @@ use Rattle.sizes.specs.Sizes.{n_max}
 use Rattle.intervals.specs.Places.{entry_at, side_at}
 use Rattle.intervals.specs.declared.Interval.{Interval}
 use Rattle.jobs.specs.Places.{equation_at}
-use Rattle.jobs.specs.declared.Equation.{Equation}
 use Rattle.step.specs.Ranges.{StepIn}
 use Rattle.step.specs.Values.{low_ends, high_ends}
 use Rattle.halving.specs.Boxes.{Listed}
+use Rattle.halving.specs.declared.Shared.{Shared}
 
 -- how many they are, whatever n is
 abbrev pub listed_places : ℕ
@@ -38,9 +38,8 @@ pub record Lists (n : ℕ) (old new : List ℤ) (at r : ℕ) (bs : List Listed) 
   pub list : new ≡ sets old (listed_places * at) (numbers_of n bs)
 
 -- what is asked where the boxes that come of x are listed behind the first `at` in a list of `room` numbers
-pub record ListsIn (eqs : List Equation) (c : List (List ℤ)) (n : ℕ) (x : List Interval) (depth room at : ℕ)
-    : Type 0 where
-  pub step : StepIn n (equation_at eqs) (entry_at c) (side_at x)
-  pub some : 1 ≤ n
+pub record ListsIn (s : Shared) (x : List Interval) (depth room at : ℕ) : Type 0 where
+  pub step : StepIn s.n (equation_at s.eqs) (entry_at s.c) (side_at x)
+  pub some : 1 ≤ s.n
   pub size : length x ≡ n_max
   pub enough : listed_places * (at + 2 ^ depth) ≤ room

@@ -1,24 +1,25 @@
 // All closing positions: a box whose run decides nothing is cut in two, and each half is run in its turn.
 #![tactic(auto)]
 
-ghost use Rattle.std.specs.Prelude.{◌≡◌, ◌+◌, ◌*◌, ◌^◌, ◌≤◌, length};
+ghost use Rattle.std.specs.Prelude.{◌≡◌, ◌+◌, ◌*◌, ◌^◌, ◌≤◌, length, nat_abs, Ok};
 ghost use Rattle.sizes.specs.Sizes.{n_max, depth_max};
 ghost use Rattle.intervals.specs.Places.{entry_at, side_at};
 ghost use Rattle.jobs.specs.Places.{equation_at};
+ghost use Rattle.faults.specs.Checks.{and_then};
 ghost use Rattle.checks.specs.Checks.{check_job};
 ghost use Rattle.slopes.specs.Ranges.{BoxIn};
 ghost use Rattle.step.specs.Ranges.{StepIn};
 ghost use Rattle.halving.specs.Boxes.{listed_as, boxes_by, boxes_of};
 ghost use Rattle.halving.specs.Parts.{undecided_part, part_of, run_by, ran_as};
-ghost use Rattle.halving.specs.Lists.{listed_places, unique_number, Put, Lists, ListsIn};
+ghost use Rattle.halving.specs.Lists.{listed_places, Put, Lists, ListsIn};
 ghost use Rattle.halving.specs.Halving.{depth_status, room_status, halve_status, Halves};
 
 use checks::job::check_job;
 use edges::{high_half, is_wide, low_half};
-use faults::{Fault, Status, is_bad};
+use faults::{Checked, Fault, bad_unless, on_line, refused};
 use intervals::Interval;
 use jobs::{Equation, Job, Verdict};
-use run::run_system;
+use run::{Outcome, run_system};
 use sizes::{BOXES, DEPTH, N};
 use step::values;
 
@@ -28,11 +29,13 @@ pub const LISTED: usize = 1 + N + N;
 // Those of as many boxes as can be listed.
 pub const NUMBERS: usize = LISTED * BOXES;
 
-// How many boxes are listed, none beside a fault.
+// What the runs of all boxes of a job share: its equations and its inverse as a step takes them, n, and the allowance.
 #[derive(Clone, Copy)]
-pub struct Halved {
-    pub status: Status,
-    pub boxes: usize,
+pub struct Shared {
+    pub eqs: [Equation; N],
+    pub c: [[i64; N]; N],
+    pub n: usize,
+    pub steps: u64,
 }
 
 // What becomes of a box that was run.
@@ -52,20 +55,20 @@ pub struct Returned {
 }
 
 // A box that was not decided.
+#[tactic(auto, unfolding(crate::specs::Parts::undecided_part))]
 fn undecided(x: [Interval; N], n: usize, depth: u64) -> Part
     requires box_in { BoxIn n (side_at x) }
     requires le_n { 1 ≤ n }
     ensures { result ≡ undecided_part n x depth }
 {
-    if depth == 0 {
-        return Part::Open;
+    if depth != 0 && is_wide(x, n) {
+        Part::Cut
+    } else {
+        Part::Open
     }
-    if is_wide(x, n) {
-        return Part::Cut;
-    }
-    Part::Open
 }
 
+#[tactic(auto, unfolding(crate::specs::Parts::part_of))]
 fn part_of(verdict: Verdict, x: [Interval; N], n: usize, depth: u64) -> Part
     requires box_in { BoxIn n (side_at x) }
     requires le_n { 1 ≤ n }
@@ -74,27 +77,18 @@ fn part_of(verdict: Verdict, x: [Interval; N], n: usize, depth: u64) -> Part
     match verdict {
         Verdict::None => Part::Dropped,
         Verdict::Unique => Part::Unique,
-        Verdict::Stalled => undecided(x, n, depth),
-        Verdict::Spent => undecided(x, n, depth),
+        Verdict::Stalled | Verdict::Spent => undecided(x, n, depth),
     }
 }
 
 // The run from the box x on.
-fn ran(
-    eqs: [Equation; N],
-    c: [[i64; N]; N],
-    n: usize,
-    steps: u64,
-    x: [Interval; N],
-    depth: u64,
-) -> Returned
-    requires step_in { StepIn n (equation_at eqs) (entry_at c) (side_at x) }
-    requires le_n { 1 ≤ n }
-    ensures { result ≡ ran_as (run_by eqs c n steps x) n depth }
+fn ran(job: &Shared, x: [Interval; N], depth: u64) -> Returned
+    requires step_in { StepIn job.now.n (equation_at job.now.eqs) (entry_at job.now.c) (side_at x) }
+    requires le_n { 1 ≤ job.now.n }
+    ensures { result ≡ ran_as (run_by job.now x) job.now.n depth }
 {
-    let o = run_system(eqs, c, x, n, steps);
-    let verdict = o.verdict;
-    let sides = o.sides;
+    let n = job.n;
+    let Outcome { verdict, sides, .. } = run_system(job.eqs, job.c, x, n, job.steps);
     let part = part_of(verdict, sides, n, depth);
     Returned { part, sides }
 }
@@ -103,20 +97,8 @@ fn put_row(list: &mut [i64], at: usize, row: [i64; N]) -> usize
     requires { at + n_max ≤ length list.old }
     ensures { Put list.old list.new at result row }
 {
-    for k in 0..N {
-        let v = row[k];
-        list[at + k] = v;
-    }
+    list[at..at + N].copy_from_slice(&row);
     at + N
-}
-
-fn unique_number(unique: bool) -> i64
-    ensures { result ≡ unique_number unique }
-{
-    if unique {
-        return 1;
-    }
-    0
 }
 
 // One box behind the first `at`; answers how many stand there then.
@@ -126,80 +108,59 @@ fn put_box(list: &mut [i64], at: usize, unique: bool, x: [Interval; N], n: usize
     ensures { Lists n list.old list.new at result (listed_as unique x) }
 {
     let first = LISTED * at;
-    let word = unique_number(unique);
     let ends = values::ends_of(x, n);
-    let lo = ends.lo;
-    let hi = ends.hi;
-    list[first] = word;
-    let next = put_row(list, first + 1, lo);
-    put_row(list, next, hi);
+    list[first] = i64::from(unique);
+    let next = put_row(list, first + 1, ends.lo);
+    put_row(list, next, ends.hi);
     at + 1
 }
 
 // The boxes that come of x, behind the first `at`.
-fn list_from(
-    eqs: [Equation; N],
-    c: [[i64; N]; N],
-    n: usize,
-    steps: u64,
-    x: [Interval; N],
-    depth: u64,
-    list: &mut [i64],
-    at: usize,
-) -> usize
-    requires { ListsIn eqs c n x depth (length list.old) at }
-    ensures { Lists n list.old list.new at result
-        (boxes_by (run_by eqs c n steps) n depth x) }
+fn list_from(job: &Shared, x: [Interval; N], depth: u64, list: &mut [i64], at: usize) -> usize
+    requires { ListsIn job.now x depth (length list.old) at }
+    ensures { Lists job.now.n list.old list.new at result (boxes_by (run_by job.now) job.now.n depth x) }
 {
-    let r = ran(eqs, c, n, steps, x, depth);
-    let part = r.part;
+    let n = job.n;
+    let r = ran(job, x, depth);
     let sides = r.sides;
-    match part {
+    match r.part {
         Part::Dropped => at,
         Part::Unique => put_box(list, at, true, sides, n),
         Part::Open => put_box(list, at, false, sides, n),
         Part::Cut => {
-            let next = list_from(eqs, c, n, steps, low_half(sides, n), depth - 1, list, at);
-            list_from(eqs, c, n, steps, high_half(sides, n), depth - 1, list, next)
+            let next = list_from(job, low_half(sides, n), depth - 1, list, at);
+            list_from(job, high_half(sides, n), depth - 1, list, next)
         }
     }
 }
 
-fn depth_status(depth: i64) -> Status
-    ensures { result ≡ depth_status depth }
+// The depth as a count.
+fn depth_number(depth: i64) -> Checked<u64>
+    ensures { result ≡ and_then (depth_status depth) (Ok (nat_abs depth)) }
 {
-    if depth < 0 {
-        return Status::Refused(Fault::Steps, 0);
+    if depth < 0 || DEPTH < depth as u64 {
+        return refused(Fault::Steps, 0);
     }
-    if DEPTH < depth as u64 {
-        return Status::Refused(Fault::Steps, 0);
-    }
-    Status::Done
+    Ok(depth as u64)
 }
 
-fn room_status(depth: u64, room: usize) -> Status
+fn room_status(depth: u64, room: usize) -> Checked<()>
     requires { depth ≤ depth_max }
     ensures { result ≡ room_status depth room }
 {
     let boxes: usize = 1 << depth;
-    if boxes <= room / LISTED {
-        return Status::Done;
-    }
-    Status::Refused(Fault::ShortBuffer, 0)
+    on_line(bad_unless(boxes <= room / LISTED, Fault::ShortBuffer), 0)
 }
 
-fn halve_status(j: Job, depth: i64, room: usize) -> Status
-    ensures { result ≡ halve_status j depth room }
+// How deep a job is halved into a list of `room` numbers, or what refuses it.
+#[tactic(auto, unfolding(crate::specs::Halving::halve_status, faults::specs::Checks::and_then))]
+fn halve_depth(j: Job, depth: i64, room: usize) -> Checked<u64>
+    ensures { result ≡ and_then (halve_status j depth room) (Ok (nat_abs depth)) }
 {
-    let own = check_job(j);
-    if is_bad(own) {
-        return own;
-    }
-    let deep = depth_status(depth);
-    if is_bad(deep) {
-        return deep;
-    }
-    room_status(depth as u64, room)
+    check_job(j)?;
+    let deep = depth_number(depth)?;
+    room_status(deep, room)?;
+    Ok(deep)
 }
 
 // The boxes of a job whose check found nothing. Its equations are made once for all of them.
@@ -209,27 +170,21 @@ fn list_job(j: Job, depth: u64, list: &mut [i64]) -> usize
     ensures { Lists j.head.n list.old list.new 0 result (boxes_of j depth) }
 {
     let n = j.head.n;
-    let ends = j.ends;
-    let inv = j.inv;
     let eqs = systems::equations(j);
-    let c = values::matrix(inv, n);
-    let x = values::box_of(ends, n);
-    list_from(eqs, c, n, j.steps, x, depth, list, 0)
+    let c = values::matrix(j.inv, n);
+    let job = Shared {
+        eqs,
+        c,
+        n,
+        steps: j.steps,
+    };
+    list_from(&job, values::box_of(j.ends, n), depth, list, 0)
 }
 
 // Every value is taken: a fault is returned and touches no number of the list.
-pub fn halve(j: Job, depth: i64, list: &mut [i64]) -> Halved
+pub fn halve(j: Job, depth: i64, list: &mut [i64]) -> Checked<usize>
     ensures { Halves j depth list.old list.new result }
 {
-    let status = halve_status(j, depth, list.len());
-    match status {
-        Status::Done => Halved {
-            status: Status::Done,
-            boxes: list_job(j, depth as u64, list),
-        },
-        Status::Refused(fault, line) => Halved {
-            status: Status::Refused(fault, line),
-            boxes: 0,
-        },
-    }
+    let deep = halve_depth(j, depth, list.len())?;
+    Ok(list_job(j, deep, list))
 }

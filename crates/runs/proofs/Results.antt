@@ -18,6 +18,8 @@ use Rattle.checks.proofs.CheckResultLaws.{Sound, unfaulted}
 use Rattle.intervals.specs.declared.Interval.{Interval}
 use Rattle.jobs.specs.declared.Job.{Job}
 use Rattle.faults.specs.Checked.{status_of}
+use Rattle.faults.specs.Checks.{and_then}
+use Rattle.checks.specs.Answered.{result_in}
 use Rattle.systems.specs.Kinds.{equation_of}
 use Rattle.slopes.specs.Ranges.{BoxIn}
 use Rattle.step.specs.Values.{start_of, inverse_of, low_ends, high_ends}
@@ -68,9 +70,9 @@ module _ (j : Job) (checked : check_job j ≡ Ok tt) where
   result-checked = from-checked (start_of j) (start-in accepted) j.steps accepted.steps
 
   pub run-done : status_of (run_job j) ≡ Ok tt
-  unfolding run_job
+  unfolding run_job and_then
   run-done = rw checked refl
 
   pub run-checked : check_result (result_in (run_job j)) ≡ Ok tt
-  unfolding run_job
+  unfolding run_job and_then
   run-checked = rw checked result-checked

@@ -16,18 +16,18 @@ equations-eqs-requires c = job-in (check_done _ c.requires.j_value)
 pub matrix-c-requires : goal.matrix-c-requires
 matrix-c-requires c = (check_done _ c.requires.j_value).few
 
-pub box_of-x-requires : goal.box_of-x-requires
-box_of-x-requires c = (check_done _ c.requires.j_value).few
+pub box_of-requires : goal.box_of-requires
+box_of-requires c = (check_done _ c.requires.j_value).few
 
 pub list_from-requires : goal.list_from-requires
 list_from-requires c =
     let good = check_done c.args.j c.requires.j_value in
     let right = start c.args.j good in
     record {
-      step = step_in c.args.j c.requires.j_value c.equations-eqs.ensures c.matrix-c.ensures c.box_of-x.result
-          (rw c.box_of-x.ensures right.box);
+      step = step_in c.args.j c.requires.j_value c.equations-eqs.ensures c.matrix-c.ensures c.box_of.result
+          (rw c.box_of.ensures right.box);
       some = good.some;
-      size = rw c.box_of-x.ensures right.size;
+      size = rw c.box_of.ensures right.size;
       enough = rw zero-add c.requires.depth_in_bounds;
     }
 
@@ -39,4 +39,4 @@ unfolding boxes_of
 returns c =
     subst (Lists c.args.j.head.n _ _ 0 _)
     (job-boxes c.args.j c.requires.j_value c.equations-eqs.ensures c.matrix-c.ensures _ _)
-    (rw c.box_of-x.ensures at c.list_from.ensures)
+    (rw c.box_of.ensures at c.list_from.ensures)
