@@ -1,7 +1,6 @@
 -- What the checks of values find, and what the reading of a text answers.
 use Prim.Native.Nat.{ℕ}
-use native.Mathlib.Omega.{arith}
-use mathlib.Core.Path.{◌≡◌, refl, ap}
+use mathlib.Core.Path.{◌≡◌, refl, sym, ap}
 use Rattle.faults.specs.declared.Fault.{Fault}
 use Rattle.reading.specs.Lines.{Answer}
 use Rattle.reading.specs.Shows.{unless_found}
@@ -9,6 +8,7 @@ use Rattle.faults.specs.Checks.{and_then}
 use Rattle.faults.specs.declared.Refusal.{Refusal}
 use Rattle.faults.specs.Checked.{Status, Finding, refused, status_of}
 use Rattle.faults.specs.Checks.{on_line}
+use Rattle.reading.proofs.Told.{fault-got}
 use Rattle.lines.specs.Answered.{answered}
 use Rattle.std.specs.Prelude.{Ok, Err}
 
@@ -27,11 +27,11 @@ status-last (Err f) n x = refl
 
 pub status-done : {X : Type 0} (a : Answer Fault X) → status_of (answered a) ≡ Ok tt → (x : X) × (a ≡ Answer.done x)
 status-done (Answer.done x) e = (x, refl)
-status-done (Answer.refused f n) e = absurd (let z : ◌≡◌ {A = ℕ} 0 1 = cc in omega arith)
+status-done (Answer.refused f n) e = fault-got e
 
 pub status-refused : {X : Type 0} (a : Answer Fault X) (f : Fault) (n : ℕ) → status_of (answered a) ≡ refused f n
     → a ≡ Answer.refused f n
-status-refused (Answer.done x) f n e = absurd (let z : ◌≡◌ {A = ℕ} 0 1 = cc in omega arith)
+status-refused (Answer.done x) f n e = fault-got (sym e)
 status-refused (Answer.refused f' n') f n e =
     let was : Refusal = record { fault = f'; line = n' } in
     let same : was ≡ record { fault = f; line = n } = cc in
@@ -39,4 +39,4 @@ status-refused (Answer.refused f' n') f n e =
 
 pub answer-done : {X : Type 0} (a : Answer Fault X) (x : X) → answered a ≡ Ok x → a ≡ Answer.done x
 answer-done (Answer.done y) x e = let same : y ≡ x = cc in rw same
-answer-done (Answer.refused f n) x e = absurd (let z : ◌≡◌ {A = ℕ} 0 1 = cc in omega arith)
+answer-done (Answer.refused f n) x e = fault-got e

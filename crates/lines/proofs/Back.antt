@@ -30,7 +30,8 @@ use Rattle.lines.specs.Lines.{number_of, visit_of, steps_of}
 use Rattle.lines.specs.Places.{cells, live_rows}
 use Rattle.lines.specs.Texts.{row_text, matrix_list, inverse_text, sided_text, count_text}
 use Rattle.lines.proofs.Checks.{count_none, count-over, live_at, low-live, high-live, row-live, sided-live}
-use Rattle.lines.proofs.Rows.{square-fits, square-some, matrix-first, rows_back, inverse-live}
+use Rattle.lines.proofs.Squares.{square-fits}
+use Rattle.lines.proofs.Rows.{square-some, matrix-first, rows_back, inverse-live}
 use Rattle.std.specs.Prelude.{Ok}
 
 -- ---- one number

@@ -26,14 +26,11 @@ use Rattle.reading.specs.NumberLines.{placed}
 use Rattle.reading.proofs.NumberLines.{below-tab}
 use Rattle.lines.specs.Places.{cells, rows_of, live_rows}
 use Rattle.lines.specs.Texts.{entry_of, matrix_list}
+use Rattle.lines.proofs.Squares.{square-fits}
 use Rattle.lines.proofs.Checks.{live_at, within-live}
 use Rattle.std.specs.Prelude.{Ok}
 
--- n rows of n have room
-pub square-fits : (n : ℕ) → n ≤ n_max → n * n ≤ places_max
-square-fits n h = mul-le-mul {n₁ = n} {m₁ = n} {n₂ = n_max} {m₂ = n_max} h h
-
--- and are not nothing
+-- n rows of n are not nothing
 pub square-some : (n : ℕ) → 0 < n → 0 < n * n
 square-some n h = mul-le-mul {n₁ = 1} {m₁ = 1} {n₂ = n} {m₂ = n} h h
 

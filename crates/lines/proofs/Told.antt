@@ -24,7 +24,8 @@ use Rattle.lines.specs.declared.Sided.{Sided}
 use Rattle.lines.specs.Places.{cells, live_rows}
 use Rattle.lines.specs.Texts.{row_text, inverse_text, sided_text}
 use Rattle.lines.proofs.Was.{LineWas}
-use Rattle.lines.proofs.Rows.{square-fits, matrix-was, rows-live}
+use Rattle.lines.proofs.Squares.{square-fits}
+use Rattle.lines.proofs.Rows.{matrix-was, rows-live}
 
 module _ (n : ℕ) (some : 0 < n) (few : n ≤ n_max) (l : List ℕ) where
   cells_told : (key : List ℕ) (check : List ℤ → Finding)
