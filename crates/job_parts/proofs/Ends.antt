@@ -11,7 +11,7 @@ use Rattle.faults.specs.Words.{fault_of}
 use Rattle.reading.specs.Lines.{ended}
 use Rattle.jobs.specs.declared.JobLine.{JobLine}
 use Rattle.jobs.specs.Lines.{job_number}
-use Rattle.job_form.specs.JobForm.{job_end, refused_with}
+use Rattle.job_form.specs.JobForm.{job_end}
 use Rattle.job_parts.specs.declared.Parts.{Parts}
 use Rattle.next_line.specs.State.{place_of, line_in, head_of, job_of, state_of}
 use Rattle.job_parts.specs.Limits.{fits}
@@ -36,7 +36,7 @@ not_end k n = go (line_in k) (place-back k)
     go JobLine.End e = absurd (n (sym e))
 
 module _ (p : Parts) where
-  pub end-beyond : fits p ≡ false → refused_with beyond_limits ≡ end_of p
+  pub end-beyond : fits p ≡ false → beyond_limits ≡ end_of p
   unfolding end_of
   end-beyond e = rw e
 

@@ -22,9 +22,10 @@ use Rattle.reading.specs.Places.{line_end}
 use Rattle.reading.proofs.Ends.{end_is}
 use Rattle.reading.proofs.Parts.{more-append, more-none, take_put}
 use Rattle.scan.specs.Lines.{line_of}
+use Rattle.lines.specs.Answered.{answered}
 use Rattle.jobs.specs.declared.Job.{Job}
 use Rattle.jobs.specs.declared.JobLine.{JobLine}
-use Rattle.job_form.specs.JobForm.{job_form_of, job_answer, read_job}
+use Rattle.job_form.specs.JobForm.{job_form_of, read_job}
 use Rattle.next_line.specs.declared.Read.{Read}
 use Rattle.job_parts.specs.declared.Parts.{Parts}
 use Rattle.next_line.specs.State.{kind_of, line_in, job_of, state_of, line_taken}
@@ -200,7 +201,7 @@ like-begun = inl record {
   long = refl;
 }
 
-like-whole : {p : Parts} {q : Part Fault JobLine Job} → Like p q → whole p ≡ job_answer (closed job_form_of q)
+like-whole : {p : Parts} {q : Part Fault JobLine Job} → Like p q → whole p ≡ answered (closed job_form_of q)
 unfolding whole closed
 like-whole {p} {q} (inr o) =
     rw (lt-ltb text_max p.size (omega (arith, o.full)), lt-ltb text_max q.size o.over)

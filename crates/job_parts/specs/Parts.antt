@@ -4,10 +4,12 @@ use Rattle.std.specs.Prelude.{ℕ, ◌+◌, cond, set, replicate, eqb, ltb, Ok}
 use mathlib.Core.List.{List, foldl}
 use Rattle.sizes.specs.Sizes.{text_max}
 use Rattle.faults.specs.declared.Fault.{Fault}
-use Rattle.faults.specs.Checked.{Status, Checked, refused}
+use Rattle.faults.specs.Checked.{Checked, refused}
+use Rattle.jobs.specs.declared.Job.{Job}
+use Rattle.lines.specs.Answered.{answered}
 use Rattle.digits.specs.Bytes.{line_feed}
 use Rattle.reading.specs.Lines.{ended}
-use Rattle.job_form.specs.JobForm.{job_form_of, job_answer, refused_with}
+use Rattle.job_form.specs.JobForm.{job_form_of}
 use Rattle.job_parts.specs.declared.Parts.{Parts}
 use Rattle.job_parts.specs.declared.Taken.{Taken}
 use Rattle.next_line.specs.State.{none_read, state_of, line_taken}
@@ -32,7 +34,7 @@ byte_taken p b = cond (ltb p.size text_max) (with_byte p b (set p.bytes p.held b
 unfoldable pub bytes_taken : Parts → List ℕ → Parts
 bytes_taken p bs = foldl byte_taken p bs
 
-abbrev pub beyond_limits : Status
+abbrev pub beyond_limits : {A : Type 0} → Checked A
 beyond_limits = refused Fault.Beyond 0
 
 -- "takes a job's text in parts of any length, zero included": a refusal "hands the state back as it was"
@@ -42,13 +44,13 @@ part_taken p bs =
     (record { status = beyond_limits; parts = p })
 
 -- "answers only when told the text has ended"; "Fault 1 comes first", with line 0
-unfoldable pub whole : Parts → (Checked Job)
+unfoldable pub whole : Parts → Checked Job
 whole p =
     cond (ltb text_max p.size) (refused Fault.LongText 0)
-    (job_answer (ended job_form_of (state_of p.read) p.held))
+    (answered (ended job_form_of (state_of p.read) p.held))
 
-unfoldable pub end_of : Parts → (Checked Job)
-end_of p = cond (fits p) (whole p) (refused_with beyond_limits)
+unfoldable pub end_of : Parts → Checked Job
+end_of p = cond (fits p) (whole p) beyond_limits
 
 -- what is carried after these parts
 unfoldable pub given : List (List ℕ) → Parts

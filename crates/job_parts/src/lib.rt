@@ -6,8 +6,8 @@ ghost use Rattle.std.specs.Prelude.{◌≡◌, true};
 ghost use Rattle.job_parts.specs.Limits.{fits};
 ghost use Rattle.job_parts.specs.Parts.{begun, bytes_taken, part_taken, end_of};
 
-use faults::{Fault, Status, fault_of};
-use job_form::{JobRead, refused};
+use faults::{Checked, Fault, refused};
+use jobs::Job;
 use jobs::lines::job_line_number;
 use next_line::Read;
 use next_line::line::line_taken;
@@ -26,7 +26,7 @@ pub struct Parts {
 
 #[derive(Clone, Copy)]
 pub struct Taken {
-    pub status: Status,
+    pub status: Checked<()>,
     pub parts: Parts,
 }
 
@@ -41,20 +41,11 @@ pub fn begin() -> Parts
     }
 }
 
+#[tactic(auto, unfolding(crate::specs::Limits::fits))]
 pub fn within_limits(p: Parts) -> bool
     ensures { result ≡ fits p }
 {
-    if TEXT + 1 < p.size {
-        return false;
-    }
-    if p.size < p.held {
-        return false;
-    }
-    if TEXT < p.held {
-        return false;
-    }
-    let read = p.read;
-    read_within(read)
+    p.size <= TEXT + 1 && p.held <= p.size && p.held <= TEXT && read_within(p.read)
 }
 
 // The bytes of a part, one after another.
@@ -62,80 +53,60 @@ fn take_bytes(p: Parts, part: &[u8]) -> Parts
     requires { fits p ≡ true }
     ensures { result ≡ bytes_taken p part.now }
 {
-    let mut size = p.size;
-    let mut held = p.held;
-    let mut read = p.read;
-    let mut bytes = p.bytes;
-    let mut i = 0;
-    while i < part.len() {
-        if TEXT <= size {
-            return Parts {
-                size: TEXT + 1,
-                held,
-                read,
-                bytes,
-            };
+    let mut s = p;
+    for &b in part {
+        if TEXT <= s.size {
+            s.size = TEXT + 1;
+            return s;
         }
-        let b = part[i];
-        bytes[held] = b;
-        size += 1;
-        i += 1;
+        s.bytes[s.held] = b;
+        s.size += 1;
         if b == b'\n' {
-            held = 0;
-            if read.fault == 0 {
-                read = line_taken(read, &bytes);
+            s.held = 0;
+            if s.read.fault == 0 {
+                s.read = line_taken(s.read, &s.bytes);
             }
         } else {
-            held += 1;
+            s.held += 1;
         }
     }
-    Parts {
-        size,
-        held,
-        read,
-        bytes,
-    }
+    s
 }
 
 // A part of any length, zero included.
+#[tactic(auto, unfolding(crate::specs::Parts::part_taken))]
 pub fn take(p: Parts, part: &[u8]) -> Taken
     ensures { result ≡ part_taken p part.now }
 {
     if !within_limits(p) {
         return Taken {
-            status: Status::Refused(Fault::Beyond, 0),
+            status: refused(Fault::Beyond, 0),
             parts: p,
         };
     }
     Taken {
-        status: Status::Done,
+        status: Ok(()),
         parts: take_bytes(p, part),
     }
 }
 
 // The text has ended.
-pub fn end(p: Parts) -> JobRead
+pub fn end(p: Parts) -> Checked<Job>
     ensures { result ≡ end_of p }
 {
     if !within_limits(p) {
-        return refused(Status::Refused(Fault::Beyond, 0));
+        return refused(Fault::Beyond, 0);
     }
     if TEXT < p.size {
-        return refused(Status::Refused(Fault::LongText, 0));
+        return refused(Fault::LongText, 0);
     }
     let read = p.read;
     if read.fault != 0 {
-        return refused(Status::Refused(fault_of(read.fault), read.line));
+        return refused(Fault::from(read.fault), read.line);
     }
-    let missing = job_line_number(line_in(read.next), head_of(read));
-    if 0 < p.held {
-        return refused(Status::Refused(Fault::Spelling, missing));
+    if 0 < p.held || read.next != 0 {
+        let missing = job_line_number(line_in(read.next), head_of(read));
+        return refused(Fault::Spelling, missing);
     }
-    if read.next != 0 {
-        return refused(Status::Refused(Fault::Spelling, missing));
-    }
-    JobRead {
-        status: Status::Done,
-        job: job_of(read),
-    }
+    Ok(job_of(read))
 }

@@ -1,80 +1,64 @@
 -- A line by the answer of its function.
-use Prim.Native.Nat.{ℕ, ◌<◌}
+use Prim.Native.Nat.{ℕ}
 use mathlib.Core.Path.{◌≡◌, refl, sym, ap, ◌∙◌}
 use mathlib.Core.List.{List}
-use mathlib.Core.Bool.{Bool, true, false, true≢false, false≢true}
-use lib.ListN.{length}
-use borrow.Author.Tests.{lt-ltb, eq-eqb}
+use borrow.Author.Tests.{eq-eqb}
 use Rattle.faults.specs.declared.Fault.{Fault}
-use Rattle.faults.specs.Checked.{Finding, Found}
-use Rattle.faults.specs.Checks.{is_fine}
-use Rattle.reading.specs.Results.{after}
+use Rattle.faults.specs.Checked.{Found}
 use Rattle.reading.specs.Lines.{Next, State, heard, step}
-use Rattle.reading.specs.Places.{line_end, line_at}
+use Rattle.reading.proofs.Told.{fault-got}
 use Rattle.scan.specs.Lines.{line_of}
 use Rattle.jobs.specs.declared.Kind.{Kind}
 use Rattle.jobs.specs.declared.Job.{Job}
 use Rattle.jobs.specs.declared.JobLine.{JobLine}
 use Rattle.jobs.specs.Lines.{job_number}
-use Rattle.job_form.specs.JobForm.{job_end, job_says, system_says}
-use Rattle.line_read.specs.At.{said}
-use Rattle.line_read.specs.States.{Tells}
+use Rattle.job_form.specs.JobForm.{job_form_of, job_says, system_says}
 use Rattle.next_line.specs.declared.Read.{Read}
-use Rattle.next_line.specs.State.{kind_of, line_in, head_of, job_of, with_state, stopped_by, hearing, line_taken}
+use Rattle.next_line.specs.State.{kind_of, line_in, head_of, job_of, with_state, stopped_by}
+use Rattle.next_line.specs.State.{read_from, line_read, line_taken}
 use Rattle.std.specs.Prelude.{Ok, Err}
 
--- an LF ends the line
-pub said-ended : {A : Type 0} (f : List ℕ → Found A) (t : List ℕ) → line_end t 0 < length t
-    → said f t 0 ≡ f (line_of t 0)
-unfolding line_at
-said-ended f t h = rw (lt-ltb (line_end t 0) (length t) h)
-
-module _ {A : Type 0} (f : List ℕ → Found A) (put : A → Next JobLine Job) (r : Read) (m : ℕ) (t : List ℕ)
-    (ends : line_end t 0 < length t) {b next : ℕ} {found : Finding} {x : A} (tells : Tells (said f t 0) b found next x)
-  where
-    -- what a line of this function leaves
-    abbrev left : Read
-    left = with_state r (heard m (after (f (line_of t 0)) put))
-
-    pub left-fine : {fine : Bool} → fine ≡ is_fine found → fine ≡ true
-        → with_state r (State.at (put x).kind (put x).value) ≡ left
-    unfolding heard after
-    left-fine {fine} q w = go (f (line_of t 0)) refl
-      where
-        go : (g : Found A) → f (line_of t 0) ≡ g
-            → with_state r (State.at (put x).kind (put x).value) ≡ with_state r (heard m (after g put))
-        go (Ok y) e = rw (tells.fine y (said-ended f t ends ∙ e)).1
-        go (Err d) e =
-            absurd (false≢true (sym (ap is_fine (tells.bad d (said-ended f t ends ∙ e)).0) ∙ sym q ∙ w))
-
-    pub left-bad : {fine : Bool} → fine ≡ is_fine found → fine ≡ false → stopped_by r found m ≡ left
-    unfolding heard after
-    left-bad {fine} q w = go (f (line_of t 0)) refl
-      where
-        go : (g : Found A) → f (line_of t 0) ≡ g → stopped_by r found m ≡ with_state r (heard m (after g put))
-        go (Ok y) e =
-            absurd (true≢false (sym (ap is_fine (tells.fine y (said-ended f t ends ∙ e)).0) ∙ sym q ∙ w))
-        go (Err d) e = rw (tells.bad d (said-ended f t ends ∙ e)).0
-
 -- a line of the system, by its kind
-pub hearing-system : (r : Read) (m i : ℕ) (t : List ℕ) {k : Kind} {s : Read} → kind_of r.kind ≡ k
-    → s ≡ with_state r (heard m (system_says k i (job_of r) (line_of t 0))) → s ≡ hearing r m (JobLine.System i) t
-unfolding hearing job_says
-hearing-system r m i t e w =
-    w ∙ ap (λ (k : Kind). with_state r (heard m (system_says k i (job_of r) (line_of t 0)))) (sym e)
+pub system-read : (r : Read) (i : ℕ) (t : List ℕ) {k : Kind} {g : Found Read} → kind_of r.kind ≡ k
+    → g ≡ read_from r (system_says k i (job_of r) (line_of t 0)) → g ≡ line_read r (JobLine.System i) t
+unfolding line_read job_says
+system-read r i t e w = w ∙ ap (λ (k : Kind). read_from r (system_says k i (job_of r) (line_of t 0))) (sym e)
+
+-- "bytes after the last line are an extra line": what such a line says is wrongly spelled
+step-says : (k : JobLine) (j : Job) (l : List ℕ)
+    → step job_form_of (State.at k j) l ≡ heard (job_number k j.head) (job_says k j l)
+unfolding step job_says heard
+step-says JobLine.Number j l = refl
+step-says JobLine.Kind j l = refl
+step-says JobLine.Unknowns j l = refl
+step-says JobLine.Pin j l = refl
+step-says JobLine.Lo j l = refl
+step-says JobLine.Hi j l = refl
+step-says JobLine.Inv j l = refl
+step-says JobLine.Steps j l = refl
+step-says (JobLine.System i) j l = refl
+step-says JobLine.End j l = refl
 
 -- the next line, as one of its kind
-pub hearing-next : (r : Read) (t : List ℕ) {k : JobLine} {m : ℕ} {s : Read} → r.fault ≡ 0 → line_in r.next ≡ k
-    → job_end k ≡ false → m ≡ job_number (line_in r.next) (head_of r) → s ≡ hearing r m k t → s ≡ line_taken r t
-unfolding hearing line_taken step
-hearing-next r t good e left number w =
-    let is = number ∙ ap (λ (k : JobLine). job_number k (head_of r)) e in
-    w ∙ rw (is, eq-eqb r.fault 0 good, e, left)
+module _ (r : Read) (t : List ℕ) (good : r.fault ≡ 0) {k : JobLine} (is : k ≡ line_in r.next) where
+  taken : line_taken r t ≡ with_state r (heard (job_number k (head_of r)) (job_says k (job_of r) (line_of t 0)))
+  unfolding line_taken
+  taken = rw (is, eq-eqb r.fault 0 good, step-says (line_in r.next) (job_of r) (line_of t 0))
 
--- "bytes after the last line are an extra line"
-pub hearing-extra : (r : Read) (t : List ℕ) {m : ℕ} {s : Read} → r.fault ≡ 0 → line_in r.next ≡ JobLine.End
-    → m ≡ job_number (line_in r.next) (head_of r) → s ≡ stopped_by r (Err Fault.Spelling) m → s ≡ line_taken r t
-unfolding line_taken step
-hearing-extra r t good e number w =
-    let is = number ∙ ap (λ (k : JobLine). job_number k (head_of r)) e in
-    w ∙ rw (is, eq-eqb r.fault 0 good, e)
+  pub next-read : {s : Read} → Ok s ≡ line_read r k t → s ≡ line_taken r t
+  unfolding line_read heard
+  next-read {s} e = rw taken (go (job_says k (job_of r) (line_of t 0)) e)
+    where
+      go : (g : Found (Next JobLine Job)) → Ok s ≡ read_from r g
+          → s ≡ with_state r (heard (job_number k (head_of r)) g)
+      go (Ok x) w = cc
+      go (Err f) w = fault-got (sym w)
+
+  pub next-bad : {f : Fault} → Err f ≡ line_read r k t → stopped_by r f (job_number k (head_of r)) ≡ line_taken r t
+  unfolding line_read heard
+  next-bad {f} e = rw taken (go (job_says k (job_of r) (line_of t 0)) e)
+    where
+      go : (g : Found (Next JobLine Job)) → Err f ≡ read_from r g
+          → stopped_by r f (job_number k (head_of r)) ≡ with_state r (heard (job_number k (head_of r)) g)
+      go (Ok x) w = fault-got w
+      go (Err d) w = let z : f ≡ d = cc in rw z

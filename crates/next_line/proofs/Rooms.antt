@@ -23,7 +23,6 @@ use Rattle.jobs.specs.Lines.{after_n, job_number, LineFits}
 use Rattle.jobs.proofs.LineLaws.{pin-lines-few}
 use Rattle.checks.proofs.CheckLaws.{unknowns-fine}
 use Rattle.lines.specs.Lines.{unknowns_of}
-use Rattle.lines.proofs.Found.{found-fine}
 use Rattle.lines.proofs.Faults.{OfLine, spelling}
 use Rattle.lines.proofs.Unknowns.{unknowns-told}
 use Rattle.job_form.specs.JobForm.{job_form_of, job_says, system_says, after_system}
@@ -143,9 +142,10 @@ says-room JobLine.Number j l p q = after_next _ _ (λ x e. (omega arith, q))
 says-room JobLine.Kind j l p q = after_next _ _ (λ x e. (omega arith, q))
 says-room JobLine.Unknowns j l p q =
     after_next (unknowns_of l) _ (λ x e.
-    (after-room j.head.kind, (unknowns-fine x (found-fine _ ((unknowns-told l).told x e).fine)).1))
+    (after-room j.head.kind, (unknowns-fine x ((unknowns-told l).told x e).fine).1))
 says-room JobLine.Pin j l p q =
-    either (starts_with pin_key l) (after_next _ _ (λ x e. (omega arith, q))) (after_next _ _ (λ x e. (omega arith, q)))
+    either (starts_with pin_key l) (after_next _ _ (λ x e. (omega arith, q)))
+    (after_next _ _ (λ x e. (omega arith, q)))
 says-room JobLine.Lo j l p q = after_next _ _ (λ x e. (omega arith, q))
 says-room JobLine.Hi j l p q = after_next _ _ (λ x e. (omega arith, q))
 says-room JobLine.Inv j l p q = after_next _ _ (λ x e. (omega arith, q))

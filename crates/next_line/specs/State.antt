@@ -2,9 +2,9 @@
 use Rattle.std.specs.Prelude.{ℕ, ◌+◌, ◌-◌, List, cond, replicate, eqb, pos, Ok, Err}
 use Rattle.sizes.specs.Sizes.{n_max}
 use Rattle.faults.specs.declared.Fault.{Fault}
-use Rattle.faults.specs.Checked.{Finding}
+use Rattle.faults.specs.Checked.{Found}
 use Rattle.faults.specs.Words.{fault_number, fault_of}
-use Rattle.reading.specs.Lines.{State, heard, step}
+use Rattle.reading.specs.Lines.{Next, State, step}
 use Rattle.scan.specs.Lines.{line_of}
 use Rattle.jobs.specs.declared.Kind.{Kind}
 use Rattle.jobs.specs.declared.Head.{Head}
@@ -119,14 +119,18 @@ with_state r (State.bad f m) = record {
   right = r.right;
 }
 
--- what a finding leaves where it is bad
-abbrev pub stopped_by : Read → Finding → ℕ → Read
-stopped_by r (Ok tt) m = r
-stopped_by r (Err f) m = with_state r (State.bad f m)
+-- the first bad line: what the lines before it say stays
+abbrev pub stopped_by : Read → Fault → ℕ → Read
+stopped_by r f m = with_state r (State.bad f m)
 
--- a line of this kind and number, from the start of these bytes to their first LF
-unfoldable pub hearing : Read → ℕ → JobLine → List ℕ → Read
-hearing r m k bytes = with_state r (heard m (job_says k (job_of r) (line_of bytes 0)))
+-- what a line leaves, where it has no fault
+abbrev pub read_from : Read → Found (Next JobLine Job) → Found Read
+read_from r (Ok x) = Ok (with_state r (State.at x.kind x.value))
+read_from r (Err f) = Err f
+
+-- a line of this kind, from the start of these bytes to their first LF
+unfoldable pub line_read : Read → JobLine → List ℕ → Found Read
+line_read r k bytes = read_from r (job_says k (job_of r) (line_of bytes 0))
 
 -- the next line: "lines are taken in order and the first bad line decides"
 unfoldable pub line_taken : Read → List ℕ → Read

@@ -1,17 +1,16 @@
 // The line that has ended, by the function of its kind that the reader of a whole text calls too.
-ghost use Rattle.std.specs.Prelude.{◌≡◌, true, ◌<◌, length};
-ghost use Rattle.reading.specs.Lines.{heard};
+ghost use Rattle.std.specs.Prelude.{◌≡◌, true, ◌<◌, ◌≤◌, length};
 ghost use Rattle.reading.specs.Places.{line_end};
 ghost use Rattle.scan.specs.Lines.{line_of};
 ghost use Rattle.jobs.specs.declared.JobLine.{JobLine};
 ghost use Rattle.job_form.specs.JobForm.{low_says};
-ghost use Rattle.next_line.specs.State.{job_of, with_state, stopped_by, hearing, line_taken};
-ghost use Rattle.next_line.specs.Limits.{read_fits, LineReady};
+ghost use Rattle.next_line.specs.State.{place_of, job_of, read_from, line_read, stopped_by, line_taken};
+ghost use Rattle.next_line.specs.Limits.{place_max, read_fits, LineReady};
 
 use crate::Read;
 use crate::state::{head_of, kind_number, kind_of, line_in, place_of};
 use crate::system::system_taken;
-use faults::{Fault, Finding, fault_number, is_fine};
+use faults::Fault;
 use jobs::JobLine;
 use jobs::lines::{after_n, job_line_number, last_pin};
 use line_read::counts::{number_line, pin_line, pin_stands, steps_line, unknowns_line};
@@ -20,149 +19,123 @@ use list_read::numbers::{high_line, inverse_line, low_line};
 use sizes::TEXT;
 
 // The first bad line: what the lines before it say stays.
-pub fn stopped(r: Read, found: Finding, number: u64) -> Read
-    ensures { result ≡ stopped_by r found number }
+fn stopped(r: Read, fault: Fault, number: u64) -> Read
+    ensures { result ≡ stopped_by r fault number }
 {
     let mut s = r;
-    match found {
-        Finding::Fine => s,
-        Finding::Bad(f) => {
-            s.fault = fault_number(f);
-            s.line = number;
-            s
-        }
-    }
+    s.fault = u64::from(fault);
+    s.line = number;
+    s
 }
 
-fn number_taken(r: Read, number: u64, line: &[u8; TEXT]) -> Read
+fn number_taken(r: Read, line: &[u8; TEXT]) -> Result<Read, Fault>
     requires { LineReady r line.now }
-    ensures { result ≡ hearing r number JobLine.Number line.now }
+    ensures { result ≡ line_read r JobLine.Number line.now }
 {
-    let l = number_line(line, 0);
-    let found = l.found;
-    if !is_fine(found) {
-        return stopped(r, found, number);
-    }
     let mut s = r;
-    s.number = l.count;
+    s.number = number_line(line, 0)?.value;
     s.next = place_of(JobLine::Kind);
-    s
+    Ok(s)
 }
 
-fn kind_taken(r: Read, number: u64, line: &[u8; TEXT]) -> Read
+fn kind_taken(r: Read, line: &[u8; TEXT]) -> Result<Read, Fault>
     requires { LineReady r line.now }
-    ensures { result ≡ hearing r number JobLine.Kind line.now }
+    ensures { result ≡ line_read r JobLine.Kind line.now }
 {
-    let l = kind_line(line, 0);
-    let found = l.found;
-    if !is_fine(found) {
-        return stopped(r, found, number);
-    }
-    let kind = l.kind;
     let mut s = r;
-    s.kind = kind_number(kind);
+    s.kind = kind_number(kind_line(line, 0)?.value);
     s.next = place_of(JobLine::Unknowns);
-    s
+    Ok(s)
 }
 
-fn unknowns_taken(r: Read, number: u64, line: &[u8; TEXT]) -> Read
+fn unknowns_taken(r: Read, line: &[u8; TEXT]) -> Result<Read, Fault>
     requires { LineReady r line.now }
-    ensures { result ≡ hearing r number JobLine.Unknowns line.now }
+    ensures { result ≡ line_read r JobLine.Unknowns line.now }
 {
-    let l = unknowns_line(line, 0);
-    let found = l.found;
-    if !is_fine(found) {
-        return stopped(r, found, number);
-    }
+    let n = unknowns_line(line, 0)?.value;
     let kind = kind_of(r.kind);
     let mut s = r;
-    s.n = l.small;
-    s.pin = last_pin(kind, l.small);
+    s.n = n;
+    s.pin = last_pin(kind, n);
     s.next = place_of(after_n(kind));
-    s
+    Ok(s)
 }
 
-fn low_taken(r: Read, number: u64, line: &[u8; TEXT]) -> Read
+fn low_taken(r: Read, line: &[u8; TEXT]) -> Result<Read, Fault>
     requires { LineReady r line.now }
-    ensures { result ≡ with_state r (heard number (low_says (job_of r) (line_of line.now 0))) }
+    ensures { result ≡ read_from r (low_says (job_of r) (line_of line.now 0)) }
 {
-    let l = low_line(line, 0, r.n);
-    let found = l.found;
-    if !is_fine(found) {
-        return stopped(r, found, number);
-    }
-    let lo = l.cells;
+    let lo = low_line(line, 0, r.n)?.value;
     let mut s = r;
     s.lo = lo;
     s.next = place_of(JobLine::Hi);
-    s
+    Ok(s)
 }
 
 // The pin or, where none is written, lo in its place.
-fn pin_taken(r: Read, number: u64, line: &[u8; TEXT]) -> Read
+fn pin_taken(r: Read, line: &[u8; TEXT]) -> Result<Read, Fault>
     requires { LineReady r line.now }
-    ensures { result ≡ hearing r number JobLine.Pin line.now }
+    ensures { result ≡ line_read r JobLine.Pin line.now }
 {
     if !pin_stands(line, 0) {
-        return low_taken(r, number, line);
-    }
-    let l = pin_line(line, 0, r.n);
-    let found = l.found;
-    if !is_fine(found) {
-        return stopped(r, found, number);
+        return low_taken(r, line);
     }
     let mut s = r;
-    s.pin = l.small;
+    s.pin = pin_line(line, 0, r.n)?.value;
     s.next = place_of(JobLine::Lo);
-    s
+    Ok(s)
 }
 
-fn high_taken(r: Read, number: u64, line: &[u8; TEXT]) -> Read
+fn high_taken(r: Read, line: &[u8; TEXT]) -> Result<Read, Fault>
     requires { LineReady r line.now }
-    ensures { result ≡ hearing r number JobLine.Hi line.now }
+    ensures { result ≡ line_read r JobLine.Hi line.now }
 {
-    let lo = r.lo;
-    let l = high_line(line, 0, r.n, lo);
-    let found = l.found;
-    if !is_fine(found) {
-        return stopped(r, found, number);
-    }
-    let hi = l.cells;
+    let hi = high_line(line, 0, r.n, r.lo)?.value;
     let mut s = r;
     s.hi = hi;
     s.next = place_of(JobLine::Inv);
-    s
+    Ok(s)
 }
 
-fn inverse_taken(r: Read, number: u64, line: &[u8; TEXT]) -> Read
+fn inverse_taken(r: Read, line: &[u8; TEXT]) -> Result<Read, Fault>
     requires { LineReady r line.now }
-    ensures { result ≡ hearing r number JobLine.Inv line.now }
+    ensures { result ≡ line_read r JobLine.Inv line.now }
 {
-    let l = inverse_line(line, 0, r.n);
-    let found = l.found;
-    if !is_fine(found) {
-        return stopped(r, found, number);
-    }
-    let inv = l.rows;
+    let inv = inverse_line(line, 0, r.n)?.value;
     let mut s = r;
     s.inv = inv;
     s.next = place_of(JobLine::Steps);
-    s
+    Ok(s)
 }
 
-fn steps_taken(r: Read, number: u64, line: &[u8; TEXT]) -> Read
+fn steps_taken(r: Read, line: &[u8; TEXT]) -> Result<Read, Fault>
     requires { LineReady r line.now }
-    ensures { result ≡ hearing r number JobLine.Steps line.now }
+    ensures { result ≡ line_read r JobLine.Steps line.now }
 {
-    let l = steps_line(line, 0);
-    let found = l.found;
-    if !is_fine(found) {
-        return stopped(r, found, number);
-    }
     let mut s = r;
-    s.steps = l.count;
+    s.steps = steps_line(line, 0)?.value;
     s.next = place_of(JobLine::System(0));
-    s
+    Ok(s)
+}
+
+// The line as one of this kind.
+fn taken_as(k: JobLine, r: Read, line: &[u8; TEXT]) -> Result<Read, Fault>
+    requires line_ready { LineReady r line.now }
+    requires line_placed { place_of k ≤ place_max }
+    ensures { result ≡ line_read r k line.now }
+{
+    match k {
+        JobLine::Number => number_taken(r, line),
+        JobLine::Kind => kind_taken(r, line),
+        JobLine::Unknowns => unknowns_taken(r, line),
+        JobLine::Pin => pin_taken(r, line),
+        JobLine::Lo => low_taken(r, line),
+        JobLine::Hi => high_taken(r, line),
+        JobLine::Inv => inverse_taken(r, line),
+        JobLine::Steps => steps_taken(r, line),
+        JobLine::System(i) => system_taken(r, i, line),
+        JobLine::End => Err(Fault::Spelling),
+    }
 }
 
 // The next line, where none was bad.
@@ -172,17 +145,8 @@ pub fn line_taken(r: Read, line: &[u8; TEXT]) -> Read
     ensures { result ≡ line_taken r line.now }
 {
     let k = line_in(r.next);
-    let number = job_line_number(k, head_of(r));
-    match k {
-        JobLine::Number => number_taken(r, number, line),
-        JobLine::Kind => kind_taken(r, number, line),
-        JobLine::Unknowns => unknowns_taken(r, number, line),
-        JobLine::Pin => pin_taken(r, number, line),
-        JobLine::Lo => low_taken(r, number, line),
-        JobLine::Hi => high_taken(r, number, line),
-        JobLine::Inv => inverse_taken(r, number, line),
-        JobLine::Steps => steps_taken(r, number, line),
-        JobLine::System(i) => system_taken(r, number, i, line),
-        JobLine::End => stopped(r, Finding::Bad(Fault::Spelling), number),
+    match taken_as(k, r, line) {
+        Ok(s) => s,
+        Err(fault) => stopped(r, fault, job_line_number(k, head_of(r))),
     }
 }

@@ -1,4 +1,4 @@
-// What the numbers stand for, and their limits.
+// What the numbers stand for, and their limits. They stay numbers, for C carries them from call to call.
 ghost use Rattle.std.specs.Prelude.{◌≡◌, ◌≤◌};
 ghost use Rattle.next_line.specs.State.{kind_number, kind_of, place_of, line_in, none_read, head_of, job_of};
 ghost use Rattle.next_line.specs.Limits.{place_max, read_fits};
@@ -26,6 +26,7 @@ pub fn kind_number(kind: Kind) -> u64
     }
 }
 
+#[tactic(auto, unfolding(crate::specs::State::kind_of))]
 pub fn kind_of(number: u64) -> Kind
     ensures { result ≡ kind_of number }
 {
@@ -54,6 +55,7 @@ pub fn place_of(k: JobLine) -> u64
     }
 }
 
+#[tactic(auto, unfolding(crate::specs::State::line_in))]
 pub fn line_in(place: u64) -> JobLine
     ensures { result ≡ line_in place }
 {
@@ -74,8 +76,6 @@ pub fn line_in(place: u64) -> JobLine
 pub fn nothing_read() -> Read
     ensures { result ≡ none_read }
 {
-    let row = zero_row();
-    let equation = zero_equation();
     Read {
         fault: 0,
         line: 0,
@@ -86,10 +86,10 @@ pub fn nothing_read() -> Read
         pin: 0,
         lo: [0; N],
         hi: [0; N],
-        inv: [row; N],
+        inv: [zero_row(); N],
         steps: 0,
-        eqs: [equation; N],
-        rows: [row; N],
+        eqs: [zero_equation(); N],
+        rows: [zero_row(); N],
         right: [0; N],
     }
 }
@@ -123,20 +123,9 @@ pub fn job_of(r: Read) -> Job
     }
 }
 
+#[tactic(auto, unfolding(crate::specs::Limits::read_fits))]
 pub fn read_within(r: Read) -> bool
     ensures { result ≡ read_fits r }
 {
-    if FAULTS < r.fault {
-        return false;
-    }
-    if LINES < r.line {
-        return false;
-    }
-    if PLACES < r.next {
-        return false;
-    }
-    if KINDS < r.kind {
-        return false;
-    }
-    r.n <= N
+    r.fault <= FAULTS && r.line <= LINES && r.next <= PLACES && r.kind <= KINDS && r.n <= N
 }

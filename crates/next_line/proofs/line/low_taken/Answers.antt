@@ -1,35 +1,21 @@
 -- `next_line::line::low_taken` meets its contract.
-use mathlib.Core.List.{List}
-use mathlib.Core.Path.{◌∙◌}
-use lib.IntN.{ℤ}
-use Rattle.jobs.specs.Parts.{with_lo}
-use Rattle.jobs.specs.declared.Job.{Job}
-use Rattle.jobs.specs.declared.JobLine.{JobLine}
-use Rattle.line_read.proofs.Tells.{cells-tells}
+use Rattle.std.proofs.Common.{rules}
+use Rattle.reading.specs.Results.{after}
 use Rattle.lines.specs.Lines.{low_of}
-use Rattle.reading.specs.Lines.{Next}
-use Rattle.next_line.specs.declared.Read.{Read}
-use Rattle.next_line.specs.State.{job_of}
+use Rattle.line_read.proofs.Ways.{said-ok, said-err}
 use Rattle.next_line.proofs.Backs.{kind-same}
-use Rattle.next_line.proofs.Arms.{left-fine, left-bad}
 use Rattle.next_line.proofs.line.low_taken.Goals as goal
 
-abbrev put : Read → List ℤ → Next JobLine Job
-put r x = record { kind = JobLine.Hi; value = with_lo (job_of r) x }
-
-pub returns-then-not-is_fine : goal.returns-then-not-is_fine
-returns-then-not-is_fine c =
-    let r = c.args.r in
-    c.stopped.ensures
-    ∙ left-bad (low_of r.n) (put r) r c.args.number c.args.line.now
-    c.requires.ends (cells-tells _ _ c.low_line-l.ensures)
-    c.is_fine.ensures c.if-not-is_fine.true
+pub returns-in_err-lo : goal.returns-in_err-lo
+unfolding after
+returns-in_err-lo c =
+    rw (said-err (low_of c.args.r.n) c.args.line.now _ c.requires.ends c.in_err-lo.ensures) (search rules)
 
 pub returns : goal.returns
+unfolding after
 returns c =
-    let r = c.args.r in
-    rw c.place_of.ensures
-    (rw (kind-same _ c.requires.kind) at
-    (left-fine (low_of r.n) (put r) r c.args.number c.args.line.now
-    c.requires.ends (cells-tells _ _ c.low_line-l.ensures)
-    c.is_fine.ensures c.if-not-is_fine.false))
+    rw (
+      said-ok (low_of c.args.r.n) c.args.line.now _ c.requires.ends c.in_ok-lo.ensures,
+      c.place_of.ensures,
+      kind-same _ c.requires.kind,
+    )

@@ -1,37 +1,23 @@
 -- `next_line::line::number_taken` meets its contract.
-use mathlib.Core.Path.{◌∙◌}
-use Prim.Native.Nat.{ℕ}
+use Rattle.std.proofs.Common.{rules}
+use Rattle.reading.specs.Results.{after}
 use Rattle.job_form.specs.JobForm.{job_says}
-use Rattle.jobs.specs.Parts.{with_number}
-use Rattle.jobs.specs.declared.Job.{Job}
-use Rattle.jobs.specs.declared.JobLine.{JobLine}
-use Rattle.line_read.proofs.Tells.{count-tells}
 use Rattle.lines.specs.Lines.{number_of}
-use Rattle.reading.specs.Lines.{Next}
-use Rattle.next_line.specs.declared.Read.{Read}
-use Rattle.next_line.specs.State.{job_of, hearing}
+use Rattle.line_read.proofs.Ways.{said-ok, said-err}
+use Rattle.next_line.specs.State.{line_read}
 use Rattle.next_line.proofs.Backs.{kind-same}
-use Rattle.next_line.proofs.Arms.{left-fine, left-bad}
 use Rattle.next_line.proofs.line.number_taken.Goals as goal
 
-abbrev put : Read → ℕ → Next JobLine Job
-put r x = record { kind = JobLine.Kind; value = with_number (job_of r) x }
-
-pub returns-then-not-is_fine : goal.returns-then-not-is_fine
-unfolding hearing job_says
-returns-then-not-is_fine c =
-    let r = c.args.r in
-    c.stopped.ensures
-    ∙ left-bad number_of (put r) r c.args.number c.args.line.now
-    c.requires.ends (count-tells _ _ c.number_line-l.ensures)
-    c.is_fine.ensures c.if-not-is_fine.true
+pub returns-in_err-s : goal.returns-in_err-s
+unfolding line_read job_says after
+returns-in_err-s c =
+    rw (said-err number_of c.args.line.now _ c.requires.ends c.in_err-s.ensures) (search rules)
 
 pub returns : goal.returns
-unfolding hearing job_says
+unfolding line_read job_says after
 returns c =
-    let r = c.args.r in
-    rw c.place_of.ensures
-    (rw (kind-same _ c.requires.kind) at
-    (left-fine number_of (put r) r c.args.number c.args.line.now
-    c.requires.ends (count-tells _ _ c.number_line-l.ensures)
-    c.is_fine.ensures c.if-not-is_fine.false))
+    rw (
+      said-ok number_of c.args.line.now _ c.requires.ends c.in_ok-s.ensures,
+      c.place_of.ensures,
+      kind-same _ c.requires.kind,
+    )
