@@ -1,4 +1,3 @@
 pub mod Lines
 pub mod Pins
-pub mod Passing
 pub mod Systems

@@ -2,12 +2,13 @@
 use Prim.Native.Nat.{ℕ, ◌≤◌}
 use mathlib.Core.Path.{◌≡◌, refl, ap, subst, ◌∙◌}
 use mathlib.Core.List.{List}
+use mathlib.Core.Logic.{◌⊎◌, inl, inr}
 use mathlib.Core.Bool.{true, false, not}
 use lib.ListN.{length}
 use borrow.Author.Tests.{eq-eqb}
 use Rattle.faults.specs.declared.Fault.{Fault}
-use Rattle.faults.specs.Checked.{Status}
-use Rattle.faults.specs.Checks.{is_bad, on_line}
+use Rattle.faults.specs.Checked.{Found, Checked}
+use Rattle.faults.specs.Checks.{on_line}
 use Rattle.text.specs.Keys.{starts_with}
 use Rattle.text.specs.Words.{pin_key}
 use Rattle.scan.specs.Lines.{line_of}
@@ -24,13 +25,12 @@ use Rattle.reading.specs.Places.{line_at}
 use Rattle.reading.proofs.Ends.{line_after}
 use Rattle.reading.proofs.Goes.{goes-as}
 use Rattle.lines.specs.Lines.{pin_of}
-use Rattle.line_read.specs.declared.SmallLine.{SmallLine}
-use Rattle.line_read.specs.At.{said, onward, small_at}
+use Rattle.line_read.specs.At.{said, onward, line_from}
 use Rattle.line_read.specs.States.{Leads}
-use Rattle.line_read.proofs.Tells.{small-tells}
 use Rattle.line_read.proofs.Ways.{line-leads-here, leads-on}
 use Rattle.job_form.specs.JobForm.{job_form_of, job_says}
-use Rattle.job_read.specs.declared.HeadAt.{HeadAt}
+use Rattle.scan.specs.declared.At.{At}
+use Rattle.std.proofs.lemmas.Result.{IfOk-weaker}
 use Rattle.job_read.specs.Parts.{Unpinned, NamesFrom, PinFrom, HeadFrom}
 use Rattle.std.specs.Prelude.{Ok}
 
@@ -56,49 +56,47 @@ module _ (t : List ℕ) (j : Job) (a : ℕ) (inside : a ≤ length t) where
   unfolding job_says line_at
   said-low key = rw key
 
-  abbrev with_its : Head → ℕ → Head
+  abbrev pub with_its : Head → ℕ → Head
   with_its head pin = record { number = head.number; kind = head.kind; n = head.n; pin = pin }
 
-  pub pin-leads : starts_with pin_key (line_of t a) ≡ true → (head : Head) → j.head ≡ head → {m : ℕ} {st : Status}
-      {r : SmallLine} → r ≡ small_at (said (pin_of head.n) t a) (onward t a) → st ≡ on_line r.found m
-      → m ≡ job_number JobLine.Pin head
-      → Leads job_form_of t a JobLine.Pin j st JobLine.Lo (with_head j (with_its head r.small)) r.next
-  pin-leads key head p {st = st} {r = r} e q w =
-      subst (λ (h : Head).
-      Leads job_form_of t a JobLine.Pin j st JobLine.Lo (with_head j (with_its h r.small)) r.next) p
+  pub pin-leads : starts_with pin_key (line_of t a) ≡ true → (head : Head) → j.head ≡ head
+      → {r : Found (At ℕ)} {q : Checked (At ℕ)} → r ≡ line_from (said (pin_of head.n) t a) (onward t a)
+      → q ≡ on_line r (job_number JobLine.Pin head)
+      → Leads job_form_of t a JobLine.Pin j q (λ x. JobLine.Lo) (λ x. with_head j (with_its head x))
+  pin-leads key head p {q = q} e is =
+      subst (λ (h : Head). Leads job_form_of t a JobLine.Pin j q (λ x. JobLine.Lo) (λ x. with_head j (with_its h x))) p
       (line-leads-here job_form_of t JobLine.Pin j a inside refl (pin_of j.head.n) put
       (said-pin key ∙ line_after Fault.Spelling (pin_of j.head.n) put t a)
-      (small-tells _ _ (rw p e)) q w)
+      (rw p e) refl is)
 
   -- no line of its own
   pub last-leads : starts_with pin_key (line_of t a) ≡ false → Unpinned j.head
-      → Leads job_form_of t a JobLine.Pin j (Ok tt) JobLine.Lo j a
+      → Leads job_form_of t a JobLine.Pin j (Ok (record { value = j.head; next = a })) (λ h. JobLine.Lo) (with_head j)
   last-leads key u = record {
     goes = goes-as job_form_of t JobLine.Pin JobLine.Lo j a inside refl refl (last-number j.head u) (said-low key);
   }
 
 -- ---- the head, with its pin
 
-module _ {t : List ℕ} {r : HeadAt} (names : NamesFrom t r) where
-  pub plain-head : after_n r.head.kind ≡ JobLine.Lo → HeadFrom t r
-  plain-head e = record {
-    leads = subst (λ (k : JobLine).
-        Leads job_form_of t 0 JobLine.Number no_job r.status k (with_head no_job r.head) r.next) e names.leads;
-    whole = names.whole;
-  }
+-- a job that has no pin
+pub no-pin : {k : Kind} → (k ≡ Kind.Poly) ⊎ (k ≡ Kind.Linear) → after_n k ≡ JobLine.Lo
+no-pin (inl e) = ap after_n e
+no-pin (inr e) = ap after_n e
 
-  module _ (good : is_bad r.status ≡ false) (eigen : r.head.kind ≡ Kind.Eigen) where
-    pub unpinned : Unpinned r.head
-    unpinned =
-        record { kind = eigen; last = names.last good ∙ ap (λ (k : Kind). last_pin k r.head.n) eigen }
+module _ {t : List ℕ} {y : At Head} (names : NamesFrom t (Ok y)) where
+  pub plain-head : after_n y.value.kind ≡ JobLine.Lo → HeadFrom t (Ok y)
+  plain-head e = record { leads = record { goes = rw e at names.leads.goes }; whole = names.whole }
 
-    pub pinned-head : {s : HeadAt} → PinFrom t r.next r.head s → HeadFrom t s
-    pinned-head p =
-        let fourth = subst (λ (k : JobLine).
-        Leads job_form_of t 0 JobLine.Number no_job r.status k (with_head no_job r.head) r.next)
-        (ap after_n eigen) names.leads in
-        let whole = names.whole good in
-        record {
-          leads = leads-on _ _ fourth good (p.leads _ refl);
-          whole = λ g. record { some = rw p.same whole.some; few = rw p.same whole.few };
-        }
+  module _ (eigen : y.value.kind ≡ Kind.Eigen) where
+    pub unpinned : Unpinned y.value
+    unpinned = record { kind = eigen; last = names.last ∙ ap (λ (k : Kind). last_pin k y.value.n) eigen }
+
+    fourth : Leads job_form_of t 0 JobLine.Number no_job (Ok y) (λ h. JobLine.Pin) (with_head no_job)
+    fourth = record { goes = rw (ap after_n eigen) at names.leads.goes }
+
+    pub pinned-head : {r : Checked (At Head)} → PinFrom t y.next y.value r → HeadFrom t r
+    pinned-head {r} p = record {
+      leads = leads-on _ _ fourth (p.leads (with_head no_job y.value) refl);
+      whole = IfOk-weaker r _ _
+          (λ z same. record { some = rw same names.whole.some; few = rw same names.whole.few }) p.same;
+    }

@@ -1,7 +1,9 @@
 -- What the parts of a job text say.
-use Rattle.std.specs.Prelude.{ℕ, ◌≤◌, ◌<◌, ◌≡◌, false, List}
+use Rattle.std.specs.Prelude.{ℕ, ◌≤◌, ◌<◌, ◌≡◌, List, Ok, Err, IfOk}
 use Rattle.sizes.specs.Sizes.{n_max}
-use Rattle.faults.specs.Checks.{is_bad, on_line}
+use Rattle.faults.specs.Checked.{Found, Checked}
+use Rattle.faults.specs.Checks.{on_line}
+use Rattle.scan.specs.declared.At.{At}
 use Rattle.jobs.specs.declared.Kind.{Kind}
 use Rattle.jobs.specs.declared.Body.{Body}
 use Rattle.jobs.specs.declared.Head.{Head}
@@ -12,11 +14,7 @@ use Rattle.jobs.specs.Zero.{zero_body, no_job}
 use Rattle.jobs.specs.Parts.{last_pin, with_head, with_ends, with_inverse, with_steps, with_system}
 use Rattle.line_read.specs.States.{Leads}
 use Rattle.job_form.specs.JobForm.{job_form_of, after_system}
-use Rattle.job_read.specs.declared.HeadAt.{HeadAt}
-use Rattle.job_read.specs.declared.BoxAt.{BoxAt}
-use Rattle.job_read.specs.declared.SystemAt.{SystemAt}
-use Rattle.job_read.specs.declared.LineEnd.{LineEnd}
-use Rattle.job_read.specs.declared.SystemEnd.{SystemEnd}
+use Rattle.job_read.specs.declared.first.Boxed.{Boxed}
 
 -- "n: 1 to" 6
 pub record Whole (head : Head) : Type 0 where
@@ -29,44 +27,50 @@ pub record Unpinned (head : Head) : Type 0 where
   pub last : head.pin ≡ head.n
 
 -- job, kind and n
-pub record NamesFrom (t : List ℕ) (r : HeadAt) : Type 0 where
-  pub leads : Leads job_form_of t 0 JobLine.Number no_job r.status (after_n r.head.kind) (with_head no_job r.head)
-      r.next
-  pub whole : is_bad r.status ≡ false → Whole r.head
-  pub last : is_bad r.status ≡ false → r.head.pin ≡ last_pin r.head.kind r.head.n
+pub record NamesFrom (t : List ℕ) (r : Checked (At Head)) : Type 0 where
+  pub leads : Leads job_form_of t 0 JobLine.Number no_job r (λ h. after_n h.kind) (with_head no_job)
+  pub whole : IfOk r (λ y. Whole y.value)
+  pub last : IfOk r (λ y. y.value.pin ≡ last_pin y.value.kind y.value.n)
 
 -- the pin, where it is written
-pub record PinFrom (t : List ℕ) (a : ℕ) (head : Head) (r : HeadAt) : Type 0 where
-  pub leads : (j : Job) → j.head ≡ head
-      → Leads job_form_of t a JobLine.Pin j r.status JobLine.Lo (with_head j r.head) r.next
-  pub same : r.head.n ≡ head.n
+pub record PinFrom (t : List ℕ) (a : ℕ) (head : Head) (r : Checked (At Head)) : Type 0 where
+  pub leads : (j : Job) → j.head ≡ head → Leads job_form_of t a JobLine.Pin j r (λ h. JobLine.Lo) (with_head j)
+  pub same : IfOk r (λ y. y.value.n ≡ head.n)
 
 -- the lines before lo
-pub record HeadFrom (t : List ℕ) (r : HeadAt) : Type 0 where
-  pub leads : Leads job_form_of t 0 JobLine.Number no_job r.status JobLine.Lo (with_head no_job r.head) r.next
-  pub whole : is_bad r.status ≡ false → Whole r.head
+pub record HeadFrom (t : List ℕ) (r : Checked (At Head)) : Type 0 where
+  pub leads : Leads job_form_of t 0 JobLine.Number no_job r (λ h. JobLine.Lo) (with_head no_job)
+  pub whole : IfOk r (λ y. Whole y.value)
 
-abbrev pub with_box : Job → BoxAt → Job
+abbrev pub with_box : Job → Boxed → Job
 with_box j b = with_steps (with_inverse (with_ends j b.ends) b.inv) b.steps
 
 -- whatever else the lines before say, those of the box add it
-pub record BoxFrom (t : List ℕ) (a : ℕ) (head : Head) (r : BoxAt) : Type 0 where
-  pub leads : (j : Job) → j.head ≡ head
-      → Leads job_form_of t a JobLine.Lo j r.status (JobLine.System 0) (with_box j r) r.next
+pub record BoxFrom (t : List ℕ) (a : ℕ) (head : Head) (r : Checked (At Boxed)) : Type 0 where
+  pub leads : (j : Job) → j.head ≡ head → Leads job_form_of t a JobLine.Lo j r (λ b. JobLine.System 0) (with_box j)
 
 -- those of the system add it to a job that has none
-pub record SystemFrom (t : List ℕ) (a : ℕ) (head : Head) (r : SystemAt) : Type 0 where
+pub record SystemFrom (t : List ℕ) (a : ℕ) (head : Head) (r : Checked (At Body)) : Type 0 where
   pub leads : (j : Job) → j.head ≡ head → j.system ≡ zero_body
-      → Leads job_form_of t a (JobLine.System 0) j r.status JobLine.End (with_system j r.system) r.next
+      → Leads job_form_of t a (JobLine.System 0) j r (λ s. JobLine.End) (with_system j)
+
+-- this value, where a place is told
+abbrev pub holding : {Y : Type 0} → Y → Checked ℕ → Checked (At Y)
+holding y (Ok b) = Ok (record { value = y; next = b })
+holding y (Err e) = Err e
+
+-- line i of the system makes `new` of it, which was `old`
+pub record LineAdds (t : List ℕ) (a : ℕ) (head : Head) (i : ℕ) (old new : Body) (r : Found ℕ) : Type 0 where
+  pub leads : (j : Job) → j.head ≡ head
+      → Leads job_form_of t a (JobLine.System i) (with_system j old)
+      (holding new (on_line r (job_number (JobLine.System i) head))) (λ s. after_system i head.n) (with_system j)
 
 -- a line of the system, as line i, adds something to it
-pub record LineFrom (t : List ℕ) (a : ℕ) (head : Head) (r : LineEnd) : Type 0 where
+pub record LineFrom (t : List ℕ) (a : ℕ) (head : Head) (r : Found ℕ) : Type 0 where
   pub add : ℕ → Body → Body
-  pub leads : (i : ℕ) (j : Job) → j.head ≡ head → (m : ℕ) → m ≡ job_number (JobLine.System i) head
-      → Leads job_form_of t a (JobLine.System i) j (on_line r.found m) (after_system i head.n)
-      (with_system j (add i j.system)) r.next
+  pub adds : (i : ℕ) (old : Body) → LineAdds t a head i old (add i old) r
 
 -- all of them, whatever the system is that they say
-pub record SystemEnds (t : List ℕ) (a : ℕ) (head : Head) (r : SystemEnd) : Type 0 where
+pub record SystemEnds (t : List ℕ) (a : ℕ) (head : Head) (r : Checked ℕ) : Type 0 where
   pub system : Body
-  pub from : SystemFrom t a head (record { status = r.status; system = system; next = r.next })
+  pub from : SystemFrom t a head (holding system r)

@@ -6,120 +6,66 @@ pub mod first;
 mod system;
 
 ghost use Rattle.std.specs.Prelude.{◌≡◌};
+ghost use Rattle.faults.specs.Checked.{status_of};
+ghost use Rattle.faults.specs.Checks.{on_line};
+ghost use Rattle.jobs.specs.Lines.{LineFits, job_number};
 ghost use Rattle.job_form.specs.JobForm.{read_job};
 
 use ends::system_end;
-use faults::{Fault, Finding, Status, is_bad};
+use faults::{Checked, Fault, on_line, refused};
 use first::{box_at, head_at};
-use job_form::{JobRead, refused};
 use jobs::lines::job_line_number;
-use jobs::{Body, Ends, Head, Job, JobLine, Row};
-use sizes::{N, TEXT};
+use jobs::{Head, Job, JobLine};
+use sizes::TEXT;
 use system::system_at;
 
-// What some lines say, and where the next line begins. Beside a fault the rest is any.
-#[derive(Clone, Copy)]
-pub struct HeadAt {
-    pub status: Status,
-    pub head: Head,
-    pub next: usize,
-}
-
-#[derive(Clone, Copy)]
-pub struct BoxAt {
-    status: Status,
-    ends: Ends,
-    inv: [Row; N],
-    steps: u64,
-    next: usize,
-}
-
-#[derive(Clone, Copy)]
-struct SystemAt {
-    status: Status,
-    system: Body,
-    next: usize,
-}
-
-// The same where what the lines say is not kept.
-#[derive(Clone, Copy)]
-struct LineEnd {
-    found: Finding,
-    next: usize,
-}
-
-#[derive(Clone, Copy)]
-struct SystemEnd {
-    status: Status,
-    next: usize,
+// What a line of this kind says or finds.
+fn told<T>(found: Result<T, Fault>, k: JobLine, head: Head) -> Checked<T>
+    requires { LineFits k head }
+    ensures { result ≡ on_line found (job_number k head) }
+{
+    on_line(found, job_line_number(k, head))
 }
 
 // The whole text.
-pub fn read_job(text: &[u8]) -> JobRead
+pub fn read_job(text: &[u8]) -> Checked<Job>
     ensures { result ≡ read_job text.now }
 {
     if TEXT < text.len() {
-        return refused(Status::Refused(Fault::LongText, 0));
+        return refused(Fault::LongText, 0);
     }
-    let h = head_at(text);
-    let told = h.status;
-    if is_bad(told) {
-        return refused(told);
-    }
-    let head = h.head;
-    let b = box_at(text, h.next, head);
-    let boxed = b.status;
-    if is_bad(boxed) {
-        return refused(boxed);
-    }
-    let s = system_at(text, b.next, head);
-    let solved = s.status;
-    if is_bad(solved) {
-        return refused(solved);
-    }
+    let h = head_at(text)?;
+    let head = h.value;
+    let b = box_at(text, h.next, head)?;
+    let s = system_at(text, b.next, head)?;
     if s.next < text.len() {
-        return refused(Status::Refused(Fault::Spelling, job_line_number(JobLine::End, head)));
+        return refused(Fault::Spelling, job_line_number(JobLine::End, head));
     }
-    let ends = b.ends;
-    let inv = b.inv;
-    let system = s.system;
-    JobRead {
-        status: Status::Done,
-        job: Job {
-            head,
-            ends,
-            inv,
-            steps: b.steps,
-            system,
-        },
-    }
+    let ends = b.value.ends;
+    let inv = b.value.inv;
+    let system = s.value;
+    Ok(Job {
+        head,
+        ends,
+        inv,
+        steps: b.value.steps,
+        system,
+    })
 }
 
 // The status of the whole text: no system is kept and no job put together.
-pub fn read_status(text: &[u8]) -> Status
+pub fn read_status(text: &[u8]) -> Checked<()>
     ensures { result ≡ status_of (read_job text.now) }
 {
     if TEXT < text.len() {
-        return Status::Refused(Fault::LongText, 0);
+        return refused(Fault::LongText, 0);
     }
-    let h = head_at(text);
-    let told = h.status;
-    if is_bad(told) {
-        return told;
+    let h = head_at(text)?;
+    let head = h.value;
+    let b = box_at(text, h.next, head)?;
+    let next = system_end(text, b.next, head)?;
+    if next < text.len() {
+        return refused(Fault::Spelling, job_line_number(JobLine::End, head));
     }
-    let head = h.head;
-    let b = box_at(text, h.next, head);
-    let boxed = b.status;
-    if is_bad(boxed) {
-        return boxed;
-    }
-    let s = system_end(text, b.next, head);
-    let solved = s.status;
-    if is_bad(solved) {
-        return solved;
-    }
-    if s.next < text.len() {
-        return Status::Refused(Fault::Spelling, job_line_number(JobLine::End, head));
-    }
-    Status::Done
+    Ok(())
 }

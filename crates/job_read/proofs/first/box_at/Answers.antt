@@ -1,100 +1,102 @@
 -- `job_read::first::box_at` meets its contract.
-use mathlib.Core.Path.{refl, sym, ◌∙◌}
-use Rattle.jobs.specs.Zero.{no_job}
-use Rattle.jobs.specs.Parts.{with_head}
-use Rattle.line_read.proofs.Ways.{leads-inside, leads-on, leads-stop}
+use Rattle.std.proofs.lemmas.Result.{err_from_is_err_and}
+use Rattle.lines.specs.Lines.{low_of, high_of, inverse_of}
+use Rattle.line_read.proofs.Ways.{leads-inside, leads-on, leads-stop, told-inside}
 use Rattle.job_read.proofs.Lines.{low-leads, high-leads, inverse-leads, steps-leads}
 use Rattle.job_read.proofs.first.box_at.Goals as goal
 
-pub returns-then-is_bad : goal.returns-then-is_bad
-returns-then-is_bad c =
+pub returns-in_err-l : goal.returns-in_err-l
+returns-in_err-l c =
     let t = c.args.text.now in
     let head = c.args.head in
+    let e = err_from_is_err_and c.from_residual.result c.from_residual.ensures.1 in
+    rw (e.1, e.2)
     record {
       leads = λ j p.
-          let low = low-leads t j c.args.from c.requires.0 head p
-          c.low_line-l.ensures c.on_line-low.ensures
-          c.job_line_number.ensures in
-          leads-stop _ _ low _ _ (sym c.is_bad.ensures ∙ c.if-is_bad.true)
-          c.no_box.ensures;
+          leads-stop _ _
+          (low-leads t j c.args.from c.requires.0 head p c.low_line.ensures
+          c.in_err-l.ensures);
     }
 
-pub high_line-h-requires : goal.high_line-h-requires
-high_line-h-requires c =
-    let t = c.args.text.now in
-    let head = c.args.head in
-    let low = low-leads t (with_head no_job head) c.args.from
-    c.requires.0 head refl c.low_line-l.ensures
-    c.on_line-low.ensures c.job_line_number.ensures in
-    (leads-inside _ _ low, c.requires.1)
+pub high_line-requires : goal.high_line-requires
+high_line-requires c = (
+  told-inside (low_of c.args.head.n) c.args.text.now c.args.from _ c.low_line.ensures c.in_ok-l.ensures,
+  c.requires.1,
+)
 
-pub returns-then-is_bad-2 : goal.returns-then-is_bad-2
-returns-then-is_bad-2 c =
+pub returns-in_err-h : goal.returns-in_err-h
+returns-in_err-h c =
     let t = c.args.text.now in
     let head = c.args.head in
+    let e = err_from_is_err_and c.from_residual-in_err-h.result c.from_residual-in_err-h.ensures.1 in
+    rw (e.1, e.2)
     record {
       leads = λ j p.
-          let low = low-leads t j c.args.from c.requires.0 head p
-          c.low_line-l.ensures c.on_line-low.ensures
-          c.job_line_number.ensures in
-          let high =
-          leads-on _ _ low (sym c.is_bad.ensures ∙ c.if-is_bad.false)
-          (high-leads t _ _ (leads-inside _ _ low) head p c.high_line-h.ensures
-          c.on_line-high.ensures c.job_line_number-2.ensures) in
-          leads-stop _ _ high _ _ (sym c.is_bad-2.ensures ∙ c.if-is_bad-2.true)
-          c.no_box-then-is_bad-2.ensures;
+          let low =
+          low-leads t j c.args.from c.requires.0 head p c.low_line.ensures
+          c.in_ok-l.ensures in
+          leads-stop _ _
+          (leads-on _ _ low
+          (high-leads t _ _ (leads-inside _ _ low) head p c.high_line.ensures
+          c.in_err-h.ensures));
     }
 
-pub inverse_line-i-requires : goal.inverse_line-i-requires
-inverse_line-i-requires c =
-    let t = c.args.text.now in
-    let head = c.args.head in
-    let low = low-leads t (with_head no_job head) c.args.from c.requires.0 head refl
-    c.low_line-l.ensures c.on_line-low.ensures
-    c.job_line_number.ensures in
-    let high =
-    leads-on _ _ low (sym c.is_bad.ensures ∙ c.if-is_bad.false)
-    (high-leads t _ _ (leads-inside _ _ low) head refl c.high_line-h.ensures
-    c.on_line-high.ensures c.job_line_number-2.ensures) in
-    (leads-inside _ _ high, c.requires.1)
+pub inverse_line-requires : goal.inverse_line-requires
+inverse_line-requires c = (
+  told-inside (high_of c.args.head.n c.in_ok-l.l.value) c.args.text.now _ _ c.high_line.ensures
+      c.in_ok-h.ensures,
+  c.requires.1,
+)
 
-pub returns-then-is_bad-3 : goal.returns-then-is_bad-3
-returns-then-is_bad-3 c =
+pub returns-in_err-i : goal.returns-in_err-i
+returns-in_err-i c =
     let t = c.args.text.now in
     let head = c.args.head in
+    let e = err_from_is_err_and c.from_residual-in_err-i.result c.from_residual-in_err-i.ensures.1 in
+    rw (e.1, e.2)
     record {
       leads = λ j p.
-          let low = low-leads t j c.args.from
-          c.requires.0 head p c.low_line-l.ensures
-          c.on_line-low.ensures c.job_line_number.ensures in
+          let low =
+          low-leads t j c.args.from c.requires.0 head p c.low_line.ensures
+          c.in_ok-l.ensures in
           let high =
-          leads-on _ _ low (sym c.is_bad.ensures ∙ c.if-is_bad.false)
-          (high-leads t _ _ (leads-inside _ _ low) head p c.high_line-h.ensures
-          c.on_line-high.ensures c.job_line_number-2.ensures) in
+          leads-on _ _ low
+          (high-leads t _ _ (leads-inside _ _ low) head p c.high_line.ensures
+          c.in_ok-h.ensures) in
+          leads-stop _ _
+          (leads-on _ _ high
+          (inverse-leads t _ _ (leads-inside _ _ high) head p c.inverse_line.ensures
+          c.in_err-i.ensures));
+    }
+
+pub steps_line-requires : goal.steps_line-requires
+steps_line-requires c =
+    told-inside (inverse_of c.args.head.n) c.args.text.now _ _ c.inverse_line.ensures c.in_ok-i.ensures
+
+pub returns-in_err-s : goal.returns-in_err-s
+returns-in_err-s c =
+    let t = c.args.text.now in
+    let head = c.args.head in
+    let e = err_from_is_err_and c.from_residual-in_err-s.result c.from_residual-in_err-s.ensures.1 in
+    rw (e.1, e.2)
+    record {
+      leads = λ j p.
+          let low =
+          low-leads t j c.args.from c.requires.0 head p c.low_line.ensures
+          c.in_ok-l.ensures in
+          let high =
+          leads-on _ _ low
+          (high-leads t _ _ (leads-inside _ _ low) head p c.high_line.ensures
+          c.in_ok-h.ensures) in
           let inverse =
-          leads-on _ _ high (sym c.is_bad-2.ensures ∙ c.if-is_bad-2.false)
-          (inverse-leads t _ _ (leads-inside _ _ high) head p c.inverse_line-i.ensures
-          c.on_line-inverted.ensures c.job_line_number-3.ensures) in
-          leads-stop _ _ inverse _ _ (sym c.is_bad-3.ensures ∙ c.if-is_bad-3.true)
-          c.no_box-then-is_bad-3.ensures;
+          leads-on _ _ high
+          (inverse-leads t _ _ (leads-inside _ _ high) head p c.inverse_line.ensures
+          c.in_ok-i.ensures) in
+          leads-stop _ _
+          (leads-on _ _ inverse
+          (steps-leads t _ _ (leads-inside _ _ inverse) head p c.steps_line.ensures
+          c.in_err-s.ensures));
     }
-
-pub steps_line-s-requires : goal.steps_line-s-requires
-steps_line-s-requires c =
-    let t = c.args.text.now in
-    let head = c.args.head in
-    let low = low-leads t (with_head no_job head) c.args.from
-    c.requires.0 head refl c.low_line-l.ensures
-    c.on_line-low.ensures c.job_line_number.ensures in
-    let high =
-    leads-on _ _ low (sym c.is_bad.ensures ∙ c.if-is_bad.false)
-    (high-leads t _ _ (leads-inside _ _ low) head refl c.high_line-h.ensures
-    c.on_line-high.ensures c.job_line_number-2.ensures) in
-    let inverse =
-    leads-on _ _ high (sym c.is_bad-2.ensures ∙ c.if-is_bad-2.false)
-    (inverse-leads t _ _ (leads-inside _ _ high) head refl c.inverse_line-i.ensures
-    c.on_line-inverted.ensures c.job_line_number-3.ensures) in
-    leads-inside _ _ inverse
 
 pub returns : goal.returns
 returns c =
@@ -102,18 +104,20 @@ returns c =
     let head = c.args.head in
     record {
       leads = λ j p.
-          let low = low-leads t j c.args.from c.requires.0 head p
-          c.low_line-l.ensures c.on_line-low.ensures
-          c.job_line_number.ensures in
+          let low =
+          low-leads t j c.args.from c.requires.0 head p c.low_line.ensures
+          c.in_ok-l.ensures in
           let high =
-          leads-on _ _ low (sym c.is_bad.ensures ∙ c.if-is_bad.false)
-          (high-leads t _ _ (leads-inside _ _ low) head p c.high_line-h.ensures
-          c.on_line-high.ensures c.job_line_number-2.ensures) in
+          leads-on _ _ low
+          (high-leads t _ _ (leads-inside _ _ low) head p c.high_line.ensures
+          c.in_ok-h.ensures) in
           let inverse =
-          leads-on _ _ high (sym c.is_bad-2.ensures ∙ c.if-is_bad-2.false)
-          (inverse-leads t _ _ (leads-inside _ _ high) head p c.inverse_line-i.ensures
-          c.on_line-inverted.ensures c.job_line_number-3.ensures) in
-          leads-on _ _ inverse (sym c.is_bad-3.ensures ∙ c.if-is_bad-3.false)
-          (steps-leads t _ _ (leads-inside _ _ inverse) head p c.steps_line-s.ensures
-          c.on_line.ensures c.job_line_number-4.ensures);
+          leads-on _ _ high
+          (inverse-leads t _ _ (leads-inside _ _ high) head p c.inverse_line.ensures
+          c.in_ok-i.ensures) in
+          let read =
+          leads-on _ _ inverse
+          (steps-leads t _ _ (leads-inside _ _ inverse) head p c.steps_line.ensures
+          c.in_ok-s.ensures) in
+          record { goes = read.goes };
     }

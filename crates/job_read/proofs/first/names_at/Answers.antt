@@ -1,61 +1,67 @@
 -- `job_read::first::names_at` meets its contract.
-use mathlib.Core.Path.{refl, sym, ◌∙◌}
+use mathlib.Core.Path.{refl}
 use native.Mathlib.Omega.{arith}
+use Rattle.std.proofs.lemmas.Result.{err_from_is_err_and}
 use Rattle.jobs.specs.Zero.{no_job}
-use Rattle.line_read.proofs.Ways.{leads-inside, leads-on}
+use Rattle.lines.specs.Lines.{number_of, kind_of}
+use Rattle.line_read.proofs.Ways.{leads-inside, leads-on, told-inside}
 use Rattle.job_read.proofs.Lines.{number-leads, kind-leads, unknowns-leads, unknowns-whole, names-stop}
 use Rattle.job_read.proofs.first.names_at.Goals as goal
 
-pub returns-then-is_bad : goal.returns-then-is_bad
-returns-then-is_bad c =
+pub returns-in_err-j : goal.returns-in_err-j
+returns-in_err-j c =
     let t = c.args.text.now in
-    let number = number-leads t no_job 0 (omega arith) c.number_line-j.ensures
-    c.on_line-numbered.ensures c.job_line_number.ensures in
-    names-stop number (sym c.is_bad.ensures ∙ c.if-is_bad.true) c.no_head.ensures
+    let p = err_from_is_err_and c.from_residual.result c.from_residual.ensures.1 in
+    rw (p.1, p.2)
+    (names-stop
+    (number-leads t no_job 0 (omega arith) c.number_line.ensures c.in_err-j.ensures))
 
-pub kind_line-k-requires : goal.kind_line-k-requires
-kind_line-k-requires c =
-    let t = c.args.text.now in
-    let number = number-leads t no_job 0 (omega arith) c.number_line-j.ensures c.on_line-numbered.ensures
-    c.job_line_number.ensures in
-    leads-inside _ _ number
+pub kind_line-requires : goal.kind_line-requires
+kind_line-requires c = told-inside number_of c.args.text.now 0 _ c.number_line.ensures c.in_ok-j.ensures
 
-pub returns-then-is_bad-2 : goal.returns-then-is_bad-2
-returns-then-is_bad-2 c =
+pub returns-in_err-k : goal.returns-in_err-k
+returns-in_err-k c =
     let t = c.args.text.now in
-    let number = number-leads t no_job 0 (omega arith) c.number_line-j.ensures c.on_line-numbered.ensures
-    c.job_line_number.ensures in
+    let number =
+    number-leads t no_job 0 (omega arith) c.number_line.ensures c.in_ok-j.ensures in
+    let p = err_from_is_err_and c.from_residual-in_err-k.result c.from_residual-in_err-k.ensures.1 in
+    rw (p.1, p.2)
+    (names-stop
+    (leads-on _ _ number
+    (kind-leads t _ _ (leads-inside _ _ number) c.kind_line.ensures c.in_err-k.ensures)))
+
+pub unknowns_line-requires : goal.unknowns_line-requires
+unknowns_line-requires c = told-inside kind_of c.args.text.now _ _ c.kind_line.ensures c.in_ok-k.ensures
+
+pub returns-in_err-u : goal.returns-in_err-u
+returns-in_err-u c =
+    let t = c.args.text.now in
+    let number =
+    number-leads t no_job 0 (omega arith) c.number_line.ensures c.in_ok-j.ensures in
     let kind =
-    leads-on _ _ number (sym c.is_bad.ensures ∙ c.if-is_bad.false)
-    (kind-leads t _ _ (leads-inside _ _ number) c.kind_line-k.ensures
-    c.on_line-named.ensures c.job_line_number-2.ensures) in
-    names-stop kind (sym c.is_bad-2.ensures ∙ c.if-is_bad-2.true) c.no_head-then-is_bad-2.ensures
-
-pub unknowns_line-u-requires : goal.unknowns_line-u-requires
-unknowns_line-u-requires c =
-    let t = c.args.text.now in
-    let number = number-leads t no_job 0 (omega arith) c.number_line-j.ensures
-    c.on_line-numbered.ensures c.job_line_number.ensures in
-    let kind =
-    leads-on _ _ number (sym c.is_bad.ensures ∙ c.if-is_bad.false)
-    (kind-leads t _ _ (leads-inside _ _ number) c.kind_line-k.ensures c.on_line-named.ensures
-    c.job_line_number-2.ensures) in
-    leads-inside _ _ kind
+    leads-on _ _ number
+    (kind-leads t _ _ (leads-inside _ _ number) c.kind_line.ensures c.in_ok-k.ensures) in
+    let p = err_from_is_err_and c.from_residual-in_err-u.result c.from_residual-in_err-u.ensures.1 in
+    rw (p.1, p.2)
+    (names-stop
+    (leads-on _ _ kind
+    (unknowns-leads t _ _ (leads-inside _ _ kind) c.unknowns_line.ensures
+    c.in_err-u.ensures)))
 
 pub returns : goal.returns
 returns c =
     let t = c.args.text.now in
-    let number = number-leads t no_job 0 (omega arith) c.number_line-j.ensures
-    c.on_line-numbered.ensures c.job_line_number.ensures in
+    let number =
+    number-leads t no_job 0 (omega arith) c.number_line.ensures c.in_ok-j.ensures in
     let kind =
-    leads-on _ _ number (sym c.is_bad.ensures ∙ c.if-is_bad.false)
-    (kind-leads t _ _ (leads-inside _ _ number) c.kind_line-k.ensures
-    c.on_line-named.ensures c.job_line_number-2.ensures) in
+    leads-on _ _ number
+    (kind-leads t _ _ (leads-inside _ _ number) c.kind_line.ensures c.in_ok-k.ensures) in
+    let read =
+    leads-on _ _ kind
+    (unknowns-leads t _ _ (leads-inside _ _ kind) c.unknowns_line.ensures
+    c.in_ok-u.ensures) in
     record {
-      leads = rw c.last_pin.ensures
-          (leads-on _ _ kind (sym c.is_bad-2.ensures ∙ c.if-is_bad-2.false)
-          (unknowns-leads t _ _ (leads-inside _ _ kind) c.unknowns_line-u.ensures
-          c.on_line.ensures c.job_line_number-3.ensures));
-      whole = unknowns-whole t _ _ c.unknowns_line-u.ensures c.on_line.ensures refl;
-      last = λ good. c.last_pin.ensures;
+      leads = rw c.last_pin.ensures record { goes = read.goes };
+      whole = unknowns-whole t _ _ c.unknowns_line.ensures c.in_ok-u.ensures refl;
+      last = c.last_pin.ensures;
     }
