@@ -62,6 +62,7 @@ pub decided : (a b : List ℕ) (f : Fault) (n : ℕ) → Decides job_form_of a f
 unfolding read_job
 decided a b f n d h = ap answered (decided-text job_form_of a b f n d h)
 
-pub same-order : (j : Job) → Spelled j → length (job_bytes j) ≤ text_max → status_of (read_job (job_bytes j)) ≡ check_job j
+pub same-order : (j : Job) → Spelled j → length (job_bytes j) ≤ text_max
+    → status_of (read_job (job_bytes j)) ≡ check_job j
 unfolding read_job
 same-order = trips.same-order

@@ -231,4 +231,5 @@ module _ (t : List ℕ) (u : Unpinned t) where
   pub old-last : status_of (read_job t) ≡ Ok tt
       → (job_in (read_job t)).head.pin ≡ last_pin (job_in (read_job t)).head.kind (job_in (read_job t)).head.n
   unfolding read_job
-  old-last e = last-pinned t (job_in (read_job t)) u (answer-done (read job_form_of t) (job_in (read_job t)) (whole t e))
+  old-last e =
+      last-pinned t (job_in (read_job t)) u (answer-done (read job_form_of t) (job_in (read_job t)) (whole t e))

@@ -174,4 +174,6 @@ module _ (j : Job) where
 
   pub passed-accepted : Passed job_shows (job_prior JobLine.End j) j → Accepted j
   passed-accepted p =
-      check_done j (sym judged-status ∙ ap (λ a. status_of (answered a)) (passed-done job_form_of job_shows j (job_prior JobLine.End j) p))
+      check_done j
+      (sym judged-status
+      ∙ ap (λ a. status_of (answered a)) (passed-done job_form_of job_shows j (job_prior JobLine.End j) p))

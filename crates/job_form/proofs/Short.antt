@@ -28,7 +28,8 @@ use Rattle.checks.specs.Accepted.{AllWithin, GoodSystem, GoodPin, Accepted}
 use Rattle.term_write.proofs.Terms.{equation-under}
 use Rattle.lines.specs.Texts.{count_text, kind_text, row_text, matrix_list}
 use Rattle.lines.proofs.Checks.{within-below, below-snoc}
-use Rattle.lines.proofs.Rows.{square-fits, matrix-long, matrix-within}
+use Rattle.lines.proofs.Squares.{square-fits}
+use Rattle.lines.proofs.Rows.{matrix-long, matrix-within}
 use Rattle.job_form.specs.JobBytes.{system_text, low_text, job_line, pin_written, low_kinds, high_kinds}
 use Rattle.job_form.specs.JobBytes.{inverse_kinds, box_kinds, system_kinds, job_prior, job_shows, job_bytes}
 use Rattle.job_form.proofs.Lows.{pin_first, low-lines-are}
