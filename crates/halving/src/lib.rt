@@ -47,7 +47,7 @@ pub enum Part {
     Cut,
 }
 
-// The box that a run returned stands beside the enum, which holds no array.
+// The same, with the box that the run returned.
 #[derive(Clone, Copy)]
 pub struct Returned {
     pub part: Part,

@@ -31,7 +31,7 @@ pub struct Equation {
     pub terms: [Term; TERMS],
 }
 
-// A row of a matrix. (A field that is an array of arrays is not covered by the borrow checker, an array of these is.)
+// A row of a matrix, as the header has it.
 #[repr(C)]
 #[derive(Clone, Copy)]
 pub struct Row {

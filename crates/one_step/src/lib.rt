@@ -20,7 +20,7 @@ use sizes::{END, IMAGE, N};
 use step::{Move, values};
 use term_checks::ranges::{all_ordered, all_within};
 
-// The box stands beside the enum, which holds no array.
+// What is decided, with the box that every decision leaves.
 #[derive(Clone, Copy)]
 pub struct Decided {
     pub what: Move,
@@ -45,6 +45,7 @@ fn image_status(j: Job, e: Ends) -> Checked<()>
     on_line(ends_check(j.head.n, e, END), 0)
 }
 
+// F and S are filled as in a run (run::run_steps, which says why it has the same loop).
 fn image_box(eqs: [Equation; N], c: [[i64; N]; N], x: [Interval; N], n: usize) -> [Interval; N]
     requires { StepIn n (equation_at eqs) (entry_at c) (side_at x) }
     ensures { result ≡ image_box n (equation_at eqs) (entry_at c) x }

@@ -1,6 +1,6 @@
 // What an equation's terms must be. Terms past the count and exponents past n are not looked at.
-ghost use Rattle.std.specs.Prelude.{◌≡◌, ◌≤◌, min};
-ghost use Rattle.sizes.specs.Sizes.{n_max, terms_max};
+ghost use Rattle.std.specs.Prelude.{◌≡◌, ◌≤◌};
+ghost use Rattle.sizes.specs.Sizes.{n_max};
 ghost use Rattle.jobs.specs.Places.{exp_of};
 ghost use Rattle.term_checks.specs.Terms.{degree, falls, good_term, good_terms, good_coefs};
 
@@ -41,6 +41,7 @@ pub fn good_terms(q: Equation, n: usize) -> bool
     if TERMS < q.count {
         return false;
     }
+    // Each term is looked at with the one before it: a zip of the two runs would be no plainer.
     for k in 0..q.count {
         if !good_term(q.terms[k], n) {
             return false;
