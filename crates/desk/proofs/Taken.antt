@@ -1,8 +1,9 @@
 -- What a reader took passes the check of its values.
 use Prim.Native.Nat.{ℕ}
-use mathlib.Core.Path.{◌≡◌, sym, ap, ◌∙◌}
+use mathlib.Core.Path.{◌≡◌, sym}
 use mathlib.Core.List.{List}
-use Rattle.faults.specs.Checked.{Status}
+use Rattle.jobs.specs.declared.Job.{Job}
+use Rattle.jobs.specs.declared.Result.{Result}
 use Rattle.checks.specs.Checks.{check_job}
 use Rattle.checks.specs.CheckResult.{check_result}
 use Rattle.job_form.specs.JobForm.{read_job}
@@ -12,11 +13,8 @@ use Rattle.result_form.proofs.Trips as result
 use Rattle.std.specs.Prelude.{Ok}
 
 module _ (t : List ℕ) where
-  pub job-taken : {r : JobRead} → r ≡ read_job t → r.status ≡ Ok tt → check_job r.job ≡ Ok tt
-  job-taken {r} e d =
-      (job.write_read t r.job (sym e ∙ ap (λ (st : Status). record { status = st; job = r.job }) d)).1
+  pub job-taken : {j : Job} → Ok j ≡ read_job t → check_job j ≡ Ok tt
+  job-taken {j} e = (job.write_read t j (sym e)).1
 
-  pub result-taken : {r : ResultRead}
-      → r ≡ read_result t → r.status ≡ Ok tt → check_result r.result ≡ Ok tt
-  result-taken {r} e d =
-      (result.write_read t r.result (sym e ∙ ap (λ (st : Status). record { status = st; result = r.result }) d)).1
+  pub result-taken : {r : Result} → Ok r ≡ read_result t → check_result r ≡ Ok tt
+  result-taken {r} e = (result.write_read t r (sym e)).1

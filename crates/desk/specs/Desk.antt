@@ -2,6 +2,7 @@
 -- written where it is no fault.
 use Rattle.std.specs.Prelude.{ℕ, List}
 use Rattle.faults.specs.Checks.{and_then}
+use Rattle.checks.specs.Answered.{job_in, result_in}
 use Rattle.checks.specs.Checks.{check_job}
 use Rattle.checks.specs.CheckResult.{check_result}
 use Rattle.result_form.specs.ResultForm.{read_result}
@@ -14,10 +15,10 @@ use Rattle.jobs.specs.declared.Job.{Job}
 
 -- what a job's reader answers is written
 abbrev pub written_status : Checked Job → Status
-written_status r = and_then r.status (check_job r.job)
+written_status r = and_then (status_of r) (check_job (job_in r))
 
 abbrev pub written_text : Checked Job → List ℕ
-written_text r = job_bytes r.job
+written_text r = job_bytes (job_in r)
 
 -- a job text is read and written again
 unfoldable pub job_status : List ℕ → Status
@@ -42,10 +43,10 @@ run_text j = show_result (result_in (run_job j))
 
 -- what a job's reader answers is run
 abbrev pub solved_status : Checked Job → Status
-solved_status r = and_then r.status (run_status r.job)
+solved_status r = and_then (status_of r) (run_status (job_in r))
 
 abbrev pub solved_text : Checked Job → List ℕ
-solved_text r = run_text r.job
+solved_text r = run_text (job_in r)
 
 -- a job text is read, run and answered
 unfoldable pub solve_status : List ℕ → Status

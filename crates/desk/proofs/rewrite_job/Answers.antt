@@ -1,20 +1,22 @@
 -- `desk::rewrite_job` meets its contract.
+use Rattle.std.proofs.lemmas.Result.{err_from_is_err_and}
+use Rattle.faults.specs.Checks.{and_then}
+use Rattle.faults.proofs.Answer.{values-bad}
 use Rattle.desk.specs.Desk.{job_status, job_text}
-use Rattle.desk.proofs.Answer.{read-bad, read-good, written-as}
+use Rattle.desk.proofs.Answer.{written-as}
 use Rattle.desk.proofs.Taken.{job-taken}
 use Rattle.desk.proofs.rewrite_job.Goals as goal
 
+pub returns-in_err-read_job : goal.returns-in_err-read_job
+unfolding job_status job_text and_then
+returns-in_err-read_job c =
+    let p = err_from_is_err_and c.from_residual.result c.from_residual.ensures.1 in
+    rw (p.1, p.2) (written-as c.in_err-read_job.ensures (values-bad _ _ _))
+
 pub write_ready-requires : goal.write_ready-requires
-write_ready-requires c =
-    job-taken _ c.read_job-read.ensures c.in-Done.is
+write_ready-requires c = job-taken _ c.in_ok-read_job.ensures
 
-pub returns-in-Refused : goal.returns-in-Refused
-unfolding job_status job_text
-returns-in-Refused c = rw (← c.read_job-read.ensures) (read-bad _ c.in-Refused.is)
-
-pub returns-in-Done : goal.returns-in-Done
-unfolding job_status job_text
-returns-in-Done c =
-    let done = c.in-Done.is in
-    let taken = job-taken _ c.read_job-read.ensures done in
-    written-as c.read_job-read.result c.read_job-read.ensures (read-good done (rw taken c.write_ready.ensures))
+pub returns : goal.returns
+unfolding job_status job_text and_then
+returns c =
+    written-as c.in_ok-read_job.ensures (rw (job-taken _ c.in_ok-read_job.ensures) c.write_ready.ensures)
