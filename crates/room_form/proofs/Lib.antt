@@ -1,5 +1,5 @@
 pub mod Lowest
-pub mod (Checked ℕ)
+pub mod Written
 pub mod Whole
 pub mod PutReading
 pub mod Visited

@@ -2,21 +2,22 @@
 use Prim.Native.Nat.{ℕ, ◌≤◌, ◌<◌}
 use native.Mathlib.Omega.{arith}
 use mathlib.Core.Path.{◌≡◌, refl, sym, ap}
-use mathlib.Core.Bool.{true, false, true≢false}
+use mathlib.Core.Bool.{true, false}
 use mathlib.Core.List.{List}
 use lib.ListN.{length}
 use lib.Dec.{eqb}
 use borrow.Author.Tests.{lt-ltb, le-ltb, ne_eqb}
 use Rattle.sizes.specs.Sizes.{visit_max}
 use Rattle.faults.specs.declared.Fault.{Fault}
-use Rattle.faults.specs.Checked.{Status, refused, status_of}
+use Rattle.faults.specs.declared.Refusal.{Refusal}
+use Rattle.faults.specs.Checked.{refused, status_of}
 use Rattle.faults.specs.Checks.{is_bad, bad_unless, on_line, and_then}
 use Rattle.faults.proofs.Laws.{not-bad, bad-first}
 use Rattle.checks.proofs.AcceptedLaws.{check_done}
+use Rattle.checks.specs.Answered.{job_in}
 use Rattle.job_form.specs.JobForm.{read_job}
 use Rattle.job_form.proofs.Answers.{read-checked, read_same}
 use Rattle.job_form.proofs.Short.{job-width}
-use Rattle.room_form.specs.declared.Opened.{Opened}
 use Rattle.room_form.specs.Table.{rooms_max, job_most, last_in, whole}
 use Rattle.room_form.specs.Calls.{lowest_free, next_visit, open_status, open_answer, opened}
 use Rattle.std.specs.Prelude.{Ok, Err}
@@ -60,16 +61,10 @@ module _ (t text : List ℕ) where
             refl
 
   -- a refusal, as the code answers it
-  pub not_opened : {st : Status} {a : Opened} → open_status t text ≡ st → is_bad st ≡ true
-      → (a.status ≡ st) × ((a.slot ≡ 0) × (a.visit ≡ 0))
-      → (a ≡ open_answer (open_status t text) (lowest_free t) (next_visit t)) × (t ≡ opened t text)
+  pub not_opened : {r : Refusal} → open_status t text ≡ Err r
+      → (Err r ≡ open_answer (open_status t text) (lowest_free t) (next_visit t)) × (t ≡ opened t text)
   unfolding open_answer opened
-  not_opened {st} {a} e bad is = go st e bad is.0
-    where
-      go : (s : Status) → open_status t text ≡ s → is_bad s ≡ true → a.status ≡ s
-          → (a ≡ open_answer (open_status t text) (lowest_free t) (next_visit t)) × (t ≡ opened t text)
-      go (Ok tt) q b w = absurd (true≢false (sym b))
-      go (Err r) q b w = rw q (rw (w, is.1.0, is.1.1) refl, refl)
+  not_opened e = rw e (refl, refl)
 
 -- a right job text has room in its slot
 pub job-short : (text : List ℕ) → status_of (read_job text) ≡ Ok tt → length text ≤ job_most

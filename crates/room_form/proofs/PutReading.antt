@@ -8,7 +8,7 @@ use lib.ListN.{length, take, drop, length-drop}
 use lib.Seq.{sets, length-take-le}
 use lib.Dec.{ltb}
 use borrow.Author.Tests.{le-ltb}
-use Rattle.faults.specs.Checked.{Written, Checked}
+use Rattle.faults.specs.Checked.{Checked}
 use Rattle.faults.specs.Answer.{Leaves}
 use Rattle.checks.specs.CheckResult.{check_result}
 use Rattle.checks.proofs.CheckResultLaws.{sound}
@@ -20,6 +20,7 @@ use Rattle.cells.proofs.Writing.{put-in-part, length-put}
 use Rattle.room_form.specs.Table.{reading_most}
 use Rattle.room_form.proofs.Written.{done-told, all_there}
 use Rattle.std.specs.Prelude.{Ok}
+use Rattle.std.specs.Result.{result_unwrap_or}
 
 -- every reading has room in its slot
 pub reading-short : (r : Result) → check_result r ≡ Ok tt → length (show_result r) ≤ reading_most
@@ -33,7 +34,8 @@ module _ (t : List ℕ) (at : ℕ) (q : List ℕ) (room : at + 4 + reading_most 
 
     abbrev Put : ℕ → Type 0
     Put m = (new : List ℕ) (a : Checked ℕ) → Leaves (Ok tt) q (lent m) new a
-        → sets (take (at + 4) t ++ (new ++ drop m (drop (at + 4) t))) at (number_bytes a.len) ≡ sets t at (cell q)
+        → sets (take (at + 4) t ++ (new ++ drop m (drop (at + 4) t))) at (number_bytes (result_unwrap_or a 0))
+        ≡ sets t at (cell q)
 
     put_all : Put reading_most
     put_all new a w =
@@ -43,7 +45,7 @@ module _ (t : List ℕ) (at : ℕ) (q : List ℕ) (room : at + 4 + reading_most 
         le-ltb (length (lent reading_most)) (length q) (omega (arith, long)) in
         ap₂ (λ (xs : List ℕ) (n : ℕ).
         sets (take (at + 4) t ++ (xs ++ drop reading_most (drop (at + 4) t))) at (number_bytes n))
-        (all_there w few) (ap (λ (x : Checked ℕ). x.len) (done-told w few))
+        (all_there w few) (ap (λ (x : Checked ℕ). result_unwrap_or x 0) (done-told w few))
         ∙ ap (λ (xs : List ℕ). sets xs at (number_bytes (length q))) (put-in-part t (at + 4) reading_most q short room)
         ∙ length-put t at q
 

@@ -6,7 +6,7 @@ use mathlib.Core.List.{List}
 use lib.ListN.{length}
 use lib.Seq.{sets}
 use lib.Dec.{ltb}
-use Rattle.faults.specs.Checked.{Written}
+use Rattle.faults.specs.Checked.{Checked}
 use Rattle.faults.specs.Checks.{is_bad}
 use Rattle.faults.specs.Answer.{Leaves}
 use Rattle.faults.proofs.Laws.{not-bad}
@@ -22,21 +22,21 @@ module _ (t : List ℕ) (slot visit : ℕ) where
   unfolding stepped
   step-refused space bad = rw bad refl
 
-  module _ (good : is_bad (held_status t slot visit) ≡ false) {old new : List ℕ} {a : Written}
-      (w : Leaves (Ok tt) (show_result (after_step t slot)) old new a) {b : Bool} (test : b ≡ is_bad a.status)
+  module _ (good : is_bad (held_status t slot visit) ≡ false) {old new : List ℕ} {a : Checked ℕ}
+      (w : Leaves (Ok tt) (show_result (after_step t slot)) old new a)
     where
       pub told : Leaves (held_status t slot visit) (show_result (after_step t slot)) old new a
       told = rw (not-bad (held_status t slot visit) good) w
 
-      room : {v : Bool} → b ≡ v → ltb (length old) (length (show_result (after_step t slot))) ≡ v
-      room e = sym (room-told w) ∙ sym test ∙ e
+      room : {v : Bool} → is_bad a ≡ v → ltb (length old) (length (show_result (after_step t slot))) ≡ v
+      room e = sym (room-told w) ∙ e
 
       -- "then 7 for the result text"
-      pub step-short : b ≡ true → t ≡ stepped t slot visit (length old)
+      pub step-short : is_bad a ≡ true → t ≡ stepped t slot visit (length old)
       unfolding stepped
       step-short e = rw (good, room e) refl
 
-      module _ (fits : b ≡ false) where
+      module _ (fits : is_bad a ≡ false) where
         pub step-finished : finished (room_at t slot) ≡ true → t ≡ stepped t slot visit (length old)
         unfolding stepped
         step-finished e = rw (good, room fits, e) refl

@@ -1,12 +1,12 @@
 -- A slot that holds a visit: what is known of its two texts.
 use Prim.Native.Nat.{ℕ, ◌≤◌, ◌<◌}
-use mathlib.Core.Path.{◌≡◌, refl, sym, ap}
+use mathlib.Core.Path.{◌≡◌, refl, sym}
 use mathlib.Core.Bool.{Bool, true, false, cond, ◌&&◌, true≢false}
 use mathlib.Core.List.{List}
 use lib.Dec.{eqb, leb, ltb}
 use borrow.Author.Tests.{eqb-true, eqb-false, eq-eqb, ne_eqb, leb-true, le-leb, ltb-true}
 use Rattle.faults.specs.declared.Fault.{Fault}
-use Rattle.faults.specs.Checked.{Status, Checked, refused}
+use Rattle.faults.specs.Checked.{Checked, refused}
 use Rattle.faults.specs.Checks.{is_bad, bad_unless, on_line, and_then}
 use Rattle.faults.proofs.Laws.{not-bad, unless-fine, fine-line, done_first, done_next}
 use Rattle.jobs.specs.declared.Job.{Job}
@@ -18,12 +18,13 @@ use Rattle.result_form.specs.ResultShows.{show_result, live}
 use Rattle.result_form.proofs.Answers as result
 use Rattle.cells.specs.Cells.{number_at, text_at}
 use Rattle.visits.specs.Visits.{Stands}
+use Rattle.room_form.specs.declared.Visit.{Visit}
 use Rattle.room_form.specs.declared.Room.{Room}
-use Rattle.room_form.specs.Table.{rooms_max, reading_from, reading_most, job_from, job_most, free_room, broken_room}
-use Rattle.room_form.specs.Table.{taken_room, is_visit, held_by, room_of, last_in, slot_in, room_at, whole}
+use Rattle.room_form.specs.Table.{rooms_max, reading_from, reading_most, job_from, job_most}
+use Rattle.room_form.specs.Table.{taken_room, visit_in, is_visit, held_by, room_of, last_in, slot_in, room_at, whole}
 use Rattle.room_form.specs.Calls.{table_status, is_taken, held_status}
 use Rattle.term_checks.proofs.RangeLaws.{and_left, and_right}
-use Rattle.std.specs.Prelude.{Ok}
+use Rattle.std.specs.Prelude.{Ok, Err}
 
 -- slot s holds a visit of job j with reading r, where the last visit number is `last`
 pub record Visited (last : ℕ) (s : List ℕ) (j : Job) (r : Result) : Type 0 where
@@ -36,71 +37,58 @@ pub record Visited (last : ℕ) (s : List ℕ) (j : Job) (r : Result) : Type 0 w
 
 -- ---- from the room to what is known
 
-job-whole : (x : Checked Job) → is_bad x.status ≡ false → x ≡ Ok x.job
-job-whole x e = ap (λ (st : Status). record { status = st; job = x.job }) (not-bad x.status e)
-
-result-whole : (x : Checked Result) → is_bad x.status ≡ false → x ≡ Ok x.result
-result-whole x e = ap (λ (st : Status). record { status = st; result = x.result }) (not-bad x.status e)
+-- a slot that is taken holds its visit
+pub taken-is : (room : Room) → is_taken room ≡ true → room ≡ taken_room (visit_in room).job (visit_in room).reading
+taken-is Room.Free e = absurd (true≢false (sym e))
+taken-is (Room.Taken v) e = refl
+taken-is Room.Broken e = absurd (true≢false (sym e))
 
 -- both texts, where they make a visit
-record Both (last : ℕ) (j : Checked Job) (r : Checked Result) (room : Room) : Type 0 where
-  job-right : is_bad j.status ≡ false
-  result-right : is_bad r.status ≡ false
-  together : is_visit last j.job r.result ≡ true
-  is : room ≡ taken_room j.job r.result
+record Both (last : ℕ) (j : Checked Job) (r : Checked Result) (v : Visit) : Type 0 where
+  job : j ≡ Ok v.job
+  reading : r ≡ Ok v.reading
+  together : is_visit last v.job v.reading ≡ true
 
-by-texts : (last : ℕ) (j : Checked Job) (r : Checked Result) → is_taken (held_by last j r).standing ≡ true
-    → Both last j r (held_by last j r)
+by-texts : (last : ℕ) (j : Checked Job) (r : Checked Result) → is_taken (held_by last j r) ≡ true
+    → Both last j r (visit_in (held_by last j r))
 unfolding held_by
-by-texts last j r e = go (is_bad j.status) (is_bad r.status) (is_visit last j.job r.result) refl refl refl e
+by-texts last (Err e) r taken = absurd (true≢false (sym taken))
+by-texts last (Ok j) (Err e) taken = absurd (true≢false (sym taken))
+by-texts last (Ok j) (Ok r) taken = go (is_visit last j r) refl taken
   where
-    go : (a b c : Bool) → is_bad j.status ≡ a → is_bad r.status ≡ b → is_visit last j.job r.result ≡ c
-        → is_taken (cond a broken_room (cond b broken_room (cond c (taken_room j.job r.result) broken_room))).standing
-        ≡ true
-        → Both last j r (cond a broken_room (cond b broken_room (cond c (taken_room j.job r.result) broken_room)))
-    go true b c p q w e = absurd (true≢false (sym e))
-    go false true c p q w e = absurd (true≢false (sym e))
-    go false false false p q w e = absurd (true≢false (sym e))
-    go false false true p q w e = record { job-right = p; result-right = q; together = w; is = refl }
+    go : (b : Bool) → is_visit last j r ≡ b → is_taken (cond b (taken_room j r) Room.Broken) ≡ true
+        → Both last (Ok j) (Ok r) (visit_in (cond b (taken_room j r) Room.Broken))
+    go true e taken = record { job = refl; reading = refl; together = e }
+    go false e taken = absurd (true≢false (sym taken))
 
-pub room-visited : (last : ℕ) (s : List ℕ) → is_taken (room_of last s).standing ≡ true
-    → Visited last s (room_of last s).job (room_of last s).reading
+pub room-visited : (last : ℕ) (s : List ℕ) → is_taken (room_of last s) ≡ true
+    → Visited last s (visit_in (room_of last s)).job (visit_in (room_of last s)).reading
 unfolding room_of
 room-visited last s e =
     go (eqb (number_at s job_from) 0) (leb (number_at s reading_from) reading_most)
     (leb (number_at s job_from) job_most)
     refl refl refl e
   where
-    j : (Checked Job)
-    j = read_job (text_at s job_from)
-
-    r : (Checked Result)
-    r = read_result (text_at s reading_from)
-
-    found : Room
-    found = held_by last (read_job (text_at s job_from)) (read_result (text_at s reading_from))
-
     go : (a b c : Bool) → eqb (number_at s job_from) 0 ≡ a → leb (number_at s reading_from) reading_most ≡ b
         → leb (number_at s job_from) job_most ≡ c
-        → is_taken (cond a free_room (cond (b && c)
-        (held_by last (read_job (text_at s job_from)) (read_result (text_at s reading_from))) broken_room)).standing
-        ≡ true
+        → is_taken (cond a Room.Free (cond (b && c)
+        (held_by last (read_job (text_at s job_from)) (read_result (text_at s reading_from))) Room.Broken)) ≡ true
         → Visited last s
-        (cond a free_room (cond (b && c)
-        (held_by last (read_job (text_at s job_from)) (read_result (text_at s reading_from))) broken_room)).job
-        (cond a free_room (cond (b && c)
-        (held_by last (read_job (text_at s job_from)) (read_result (text_at s reading_from))) broken_room)).reading
+        (visit_in (cond a Room.Free (cond (b && c)
+        (held_by last (read_job (text_at s job_from)) (read_result (text_at s reading_from))) Room.Broken))).job
+        (visit_in (cond a Room.Free (cond (b && c)
+        (held_by last (read_job (text_at s job_from)) (read_result (text_at s reading_from))) Room.Broken))).reading
     go true b c p q w e = absurd (true≢false (sym e))
     go false false c p q w e = absurd (true≢false (sym e))
     go false true false p q w e = absurd (true≢false (sym e))
     go false true true p q w e =
         let both = by-texts last (read_job (text_at s job_from)) (read_result (text_at s reading_from)) e in
-        rw both.is record {
+        record {
           some = eqb-false (number_at s job_from) 0 p;
           reading-fits = leb-true (number_at s reading_from) reading_most q;
           job-fits = leb-true (number_at s job_from) job_most w;
-          job = job-whole _ both.job-right;
-          reading = result-whole _ both.result-right;
+          job = both.job;
+          reading = both.reading;
           visit = both.together;
         }
 
@@ -179,8 +167,8 @@ held-no-table t slot visit e = rw e refl
 pub record HeldAt (t : List ℕ) (slot visit : ℕ) : Type 0 where
   pub is-whole : whole t ≡ true
   pub inside : slot < rooms_max
-  pub taken : is_taken (room_at t slot).standing ≡ true
-  pub is-visit : (room_at t slot).reading.visit ≡ visit
+  pub taken : is_taken (room_at t slot) ≡ true
+  pub is-visit : (visit_in (room_at t slot)).reading.visit ≡ visit
 
 pub held_at : (t : List ℕ) (slot visit : ℕ) → is_bad (held_status t slot visit) ≡ false → HeldAt t slot visit
 held_at t slot visit e =
@@ -191,13 +179,15 @@ held_at t slot visit e =
       is-whole = unless-fine _ Fault.Table (fine-line _ 0 (done_first _ _ done));
       inside = ltb-true slot rooms_max (and_left _ _ held);
       taken = and_left _ _ room;
-      is-visit = eqb-true (room_at t slot).reading.visit visit (and_right (is_taken (room_at t slot).standing) _ room);
+      is-visit =
+          eqb-true (visit_in (room_at t slot)).reading.visit visit (and_right (is_taken (room_at t slot)) _ room);
     }
 
 -- what the code knows of a visit that is held
 module _ (t : List ℕ) (slot visit : ℕ) (e : is_bad (held_status t slot visit) ≡ false) where
-  pub at-visited : Visited (last_in t) (slot_in t slot) (room_at t slot).job (room_at t slot).reading
+  pub at-visited : Visited (last_in t) (slot_in t slot) (visit_in (room_at t slot)).job
+      (visit_in (room_at t slot)).reading
   at-visited = room-visited (last_in t) (slot_in t slot) (held_at t slot visit e).taken
 
-  pub at-stands : Stands (room_at t slot).job (room_at t slot).reading
+  pub at-stands : Stands (visit_in (room_at t slot)).job (visit_in (room_at t slot)).reading
   at-stands = visited-stands at-visited

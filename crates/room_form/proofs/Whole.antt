@@ -15,7 +15,7 @@ use Rattle.room_form.specs.Table.{rooms_max, table_size, last_in, room_at, is_wh
 
 module _ (t : List ℕ) where
   abbrev Each : Bool
-  Each = all_b rooms_max (λ k. is_whole (room_at t k).standing)
+  Each = all_b rooms_max (λ k. is_whole (room_at t k))
 
   pub too_few : length t < table_size → whole t ≡ false
   unfolding whole
@@ -38,7 +38,7 @@ module _ (t : List ℕ) where
     unfolding whole
     whole-last = leb-true (last_in t) visit_max (and_left _ _ (and_right (leb table_size (length t)) _ e))
 
-    pub whole_each : (k : ℕ) → k < rooms_max → is_whole (room_at t k).standing ≡ true
+    pub whole_each : (k : ℕ) → k < rooms_max → is_whole (room_at t k) ≡ true
     unfolding whole
     whole_each k l =
         all-each _ rooms_max k l (and_right (leb (last_in t) visit_max) _ (and_right (leb table_size (length t)) _ e))

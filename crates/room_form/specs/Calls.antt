@@ -3,17 +3,18 @@ use Rattle.std.specs.Prelude.{ℕ, zero, suc, ◌+◌, Bool, true, false, cond, 
 use Rattle.std.proofs.lemmas.List.Edits.{sets}
 use Rattle.sizes.specs.Sizes.{visit_max}
 use Rattle.faults.specs.declared.Fault.{Fault}
-use Rattle.faults.specs.Checked.{Status, status_of}
+use Rattle.faults.specs.Checked.{Checked, Status, status_of}
 use Rattle.faults.specs.Checks.{is_bad, bad_unless, on_line, and_then}
 use Rattle.jobs.specs.declared.Result.{Result}
+use Rattle.checks.specs.Answered.{job_in}
 use Rattle.job_form.specs.JobForm.{read_job}
 use Rattle.result_form.specs.ResultShows.{show_result}
 use Rattle.cells.specs.Cells.{number_bytes, cell, zeros}
 use Rattle.visits.specs.Visits.{opened_as, is_finished, next_reading}
-use Rattle.room_form.specs.declared.Standing.{Standing}
 use Rattle.room_form.specs.declared.Room.{Room}
 use Rattle.room_form.specs.declared.Opened.{Opened}
-use Rattle.room_form.specs.Table.{rooms_max, slot_size, table_size, job_from, slot_from, last_in, room_at, whole}
+use Rattle.room_form.specs.Table.{rooms_max, slot_size, table_size, job_from, slot_from, last_in, visit_in, room_at}
+use Rattle.room_form.specs.Table.{whole}
 
 -- a refusal of the table's own, with line 0
 abbrev pub unless : Bool → Fault → Status
@@ -34,10 +35,10 @@ table_status t = unless (whole t) Fault.Table
 
 -- ---- opening: "then the job's own, then 13 exactly when all eight slots are taken, then 14 after visit 999,999,999"
 
-abbrev pub is_free : Standing → Bool
-is_free Standing.Free = true
-is_free Standing.Taken = false
-is_free Standing.Broken = false
+abbrev pub is_free : Room → Bool
+is_free Room.Free = true
+is_free (Room.Taken v) = false
+is_free Room.Broken = false
 
 -- the first of m places from k on, or k + m where there is none
 unfoldable pub first_from : ℕ → (ℕ → Bool) → ℕ → ℕ
@@ -46,7 +47,7 @@ first_from (suc m) f k = cond (f k) k (first_from m f (suc k))
 
 -- "the lowest free slot"
 abbrev pub lowest_free : List ℕ → ℕ
-lowest_free t = first_from rooms_max (λ k. is_free (room_at t k).standing) 0
+lowest_free t = first_from rooms_max (λ k. is_free (room_at t k)) 0
 
 abbrev pub open_status : List ℕ → List ℕ → Status
 open_status t text =
@@ -58,9 +59,9 @@ open_status t text =
 abbrev pub next_visit : List ℕ → ℕ
 next_visit t = last_in t + 1
 
-unfoldable pub open_answer : Status → ℕ → ℕ → Opened
-open_answer (Ok tt) slot visit = record { status = Ok tt; slot = slot; visit = visit }
-open_answer (Err r) slot visit = record { status = Err r; slot = 0; visit = 0 }
+unfoldable pub open_answer : Status → ℕ → ℕ → Checked Opened
+open_answer (Ok tt) slot visit = Ok (record { slot = slot; visit = visit })
+open_answer (Err r) slot visit = Err r
 
 -- the visit's number, its reading and its job text
 abbrev pub with_visitor : List ℕ → ℕ → ℕ → List ℕ → List ℕ → List ℕ
@@ -70,17 +71,18 @@ with_visitor t slot visit reading text =
 unfoldable pub opened : List ℕ → List ℕ → List ℕ
 opened t text =
     cond (is_bad (open_status t text)) t
-    (with_visitor t (lowest_free t) (next_visit t) (show_result (opened_as (next_visit t) (job_in (read_job text)))) text)
+    (with_visitor t (lowest_free t) (next_visit t)
+    (show_result (opened_as (next_visit t) (job_in (read_job text)))) text)
 
 -- ---- the other calls: "15 for a slot or visit not open, next after 16"
 
-abbrev pub is_taken : Standing → Bool
-is_taken Standing.Free = false
-is_taken Standing.Taken = true
-is_taken Standing.Broken = false
+abbrev pub is_taken : Room → Bool
+is_taken Room.Free = false
+is_taken (Room.Taken v) = true
+is_taken Room.Broken = false
 
 abbrev pub holds : Room → ℕ → Bool
-holds room visit = is_taken room.standing && eqb room.reading.visit visit
+holds room visit = is_taken room && eqb (visit_in room).reading.visit visit
 
 abbrev pub held_status : List ℕ → ℕ → ℕ → Status
 held_status t slot visit =
@@ -88,10 +90,11 @@ held_status t slot visit =
 
 -- "a step call answers with the reading after it and changes nothing on a finished one"; "then 7 for the result text"
 abbrev pub after_step : List ℕ → ℕ → Result
-after_step t slot = next_reading (room_at t slot).job (room_at t slot).reading
+after_step t slot = next_reading (visit_in (room_at t slot)).job (visit_in (room_at t slot)).reading
 
 abbrev pub finished : Room → Bool
-finished room = is_finished room.reading.verdict room.reading.steps room.job.steps
+finished room =
+    is_finished (visit_in room).reading.verdict (visit_in room).reading.steps (visit_in room).job.steps
 
 unfoldable pub stepped : List ℕ → ℕ → ℕ → ℕ → List ℕ
 stepped t slot visit space =

@@ -1,15 +1,14 @@
 -- The table of eight rooms as bytes: docs/ROOMS.md, "The form of the table".
-use Rattle.std.specs.Prelude.{ℕ, ◌+◌, ◌*◌, Bool, true, false, cond, ◌&&◌, List, length, eqb, leb}
+use Rattle.std.specs.Prelude.{ℕ, ◌+◌, ◌*◌, Bool, true, false, cond, ◌&&◌, List, length, eqb, leb, Ok, Err}
 use Rattle.sizes.specs.Sizes.{visit_max}
 use Rattle.lists.specs.Loops.{all_b}
-use Rattle.faults.specs.Checks.{is_bad}
 use Rattle.jobs.specs.declared.Job.{Job}
 use Rattle.jobs.specs.declared.Result.{Result}
 use Rattle.jobs.specs.Zero.{no_job, no_result}
 use Rattle.job_form.specs.JobForm.{read_job}
 use Rattle.result_form.specs.ResultForm.{read_result}
 use Rattle.cells.specs.Cells.{part, number_at, text_at}
-use Rattle.room_form.specs.declared.Standing.{Standing}
+use Rattle.room_form.specs.declared.Visit.{Visit}
 use Rattle.room_form.specs.declared.Room.{Room}
 use Rattle.faults.specs.Checked.{Checked}
 
@@ -52,14 +51,14 @@ last_in t = number_at t 0
 
 -- ---- what stands in a slot
 
-abbrev pub free_room : Room
-free_room = record { standing = Standing.Free; job = no_job; reading = no_result }
-
-abbrev pub broken_room : Room
-broken_room = record { standing = Standing.Broken; job = no_job; reading = no_result }
-
 abbrev pub taken_room : Job → Result → Room
-taken_room j r = record { standing = Standing.Taken; job = j; reading = r }
+taken_room j r = Room.Taken (record { job = j; reading = r })
+
+-- the visit in a slot; beside any other room its values are zero
+abbrev pub visit_in : Room → Visit
+visit_in Room.Free = record { job = no_job; reading = no_result }
+visit_in (Room.Taken v) = v
+visit_in Room.Broken = record { job = no_job; reading = no_result }
 
 -- "both have the same job number and the same n, the reading's visit is from 1 to the last visit number, the reading's
 -- steps are at most the job's allowance"
@@ -69,32 +68,31 @@ is_visit last j r =
     && (eqb r.n j.head.n && ((leb 1 r.visit && leb r.visit last) && leb r.steps j.steps))
 
 -- "the job text is a right job text and the reading a right result text"
-unfoldable pub held_by : ℕ → (Checked Job) → (Checked Result) → Room
-held_by last j r =
-    cond (is_bad j.status) broken_room
-    (cond (is_bad r.status) broken_room
-    (cond (is_visit last j.job r.result) (taken_room j.job r.result) broken_room))
+unfoldable pub held_by : ℕ → Checked Job → Checked Result → Room
+held_by last (Ok j) (Ok r) = cond (is_visit last j r) (taken_room j r) Room.Broken
+held_by last (Ok j) (Err e) = Room.Broken
+held_by last (Err e) r = Room.Broken
 
 -- "free, which is that the length of its job text is 0, or holds a visit: the reading is at most 252 bytes long and the
 -- job text at most 2,044"
 unfoldable pub room_of : ℕ → List ℕ → Room
 room_of last s =
-    cond (eqb (number_at s job_from) 0) free_room
+    cond (eqb (number_at s job_from) 0) Room.Free
     (cond (leb (number_at s reading_from) reading_most && leb (number_at s job_from) job_most)
-    (held_by last (read_job (text_at s job_from)) (read_result (text_at s reading_from))) broken_room)
+    (held_by last (read_job (text_at s job_from)) (read_result (text_at s reading_from))) Room.Broken)
 
 abbrev pub room_at : List ℕ → ℕ → Room
 room_at t k = room_of (last_in t) (slot_in t k)
 
 -- ---- the form
 
-abbrev pub is_whole : Standing → Bool
-is_whole Standing.Free = true
-is_whole Standing.Taken = true
-is_whole Standing.Broken = false
+abbrev pub is_whole : Room → Bool
+is_whole Room.Free = true
+is_whole (Room.Taken v) = true
+is_whole Room.Broken = false
 
 -- "The bytes are of the form exactly where there are at least 18,436 of them, the last visit number is at most
 -- 999,999,999, each slot is free or holds a visit"
 unfoldable pub whole : List ℕ → Bool
 whole t =
-    leb table_size (length t) && (leb (last_in t) visit_max && all_b rooms_max (λ k. is_whole (room_at t k).standing))
+    leb table_size (length t) && (leb (last_in t) visit_max && all_b rooms_max (λ k. is_whole (room_at t k)))
