@@ -18,7 +18,8 @@ use Rattle.term_write.specs.ShowTerms.{comma_before}
 use Rattle.term_write.proofs.Joined.{joined_snoc}
 use Rattle.jobs.specs.declared.Row.{Row}
 use Rattle.lines.specs.Texts.{entry_of, matrix_list, sided_text}
-use Rattle.lines.proofs.Rows.{square-fits, matrix-long}
+use Rattle.lines.proofs.Squares.{square-fits}
+use Rattle.lines.proofs.Rows.{matrix-long}
 
 module _ (rows : List Row) (n : ℕ) (few : n ≤ n_max) where
   abbrev filled : List ℤ

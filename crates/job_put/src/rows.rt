@@ -19,6 +19,7 @@ fn entries(rows: [Row; N], n: usize) -> [i64; PLACES]
     ensures { result ≡ tab places_max (n * n) (pos 0) (entry_of rows n) }
 {
     let mut all = [0; PLACES];
+    // k gives the row and the column, and is not the index of `all` alone.
     for k in 0..n * n {
         all[k] = rows[k / n].at[k % n];
     }

@@ -13,12 +13,13 @@ use Rattle.text.specs.Keys.{body_of}
 use Rattle.text.specs.Words.{n_key, lo_key}
 use Rattle.text.specs.Lists.{Small}
 use Rattle.faults.specs.declared.Fault.{Fault}
-use Rattle.faults.specs.Checked.{Finding, Found, refused, status_of, Status}
+use Rattle.faults.specs.Checked.{Finding, Found, refused, status_of}
 use Rattle.faults.specs.Checks.{bad_unless, first_of}
 use Rattle.term_checks.specs.Ranges.{one_to}
 use Rattle.term_checks.proofs.RangeLaws.{one-to, to_one}
 use Rattle.checks.specs.Checks.{low_check, unknowns_check}
 use Rattle.checks.specs.CheckResult.{count_check, counted_check}
+use Rattle.reading.proofs.Told.{fault-got}
 use Rattle.reading.specs.Results.{after, passing}
 use Rattle.reading.specs.NumberLines.{placed, list_line}
 use Rattle.reading.specs.declared.Listed.{Listed}
@@ -150,7 +151,4 @@ module _ {X : Type 0} (old new : List ℕ → Answer Fault X) {line : ℕ}
 
   pub done-too : (t : List ℕ) → status_of (answered (old t)) ≡ Ok tt → answered (new t) ≡ answered (old t)
   done-too t done =
-      same_otherwise t (λ n p. done_refused done p) (λ n p. done_refused done p)
-    where
-      done_refused : {f : Fault} {n : ℕ} {s : Status} → s ≡ Ok tt → s ≡ refused f n → ⊥
-      done_refused e p = let z : ◌≡◌ {A = ℕ} 0 1 = cc in absurd (omega arith)
+      same_otherwise t (λ n p. fault-got (sym p ∙ done)) (λ n p. fault-got (sym p ∙ done))

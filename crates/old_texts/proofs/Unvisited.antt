@@ -1,6 +1,5 @@
 -- A result text of before request P12 has the verdict where the visit is due.
 use Prim.Native.Nat.{ℕ}
-use native.Mathlib.Omega.{arith}
 use mathlib.Core.Path.{◌≡◌, refl, sym, ap, ◌∙◌}
 use mathlib.Core.List.{List, [], ◌∷◌, foldl}
 use lib.ListN.{length}
@@ -23,6 +22,7 @@ use Rattle.reading.specs.Lines.{State, Answer, heard, step, begin, ended, read}
 use Rattle.reading.specs.NumberLines.{counted, count_line}
 use Rattle.reading.proofs.Decided.{stays-bad}
 use Rattle.reading.proofs.Goes.{and-false, read-long}
+use Rattle.reading.proofs.Reading.{refused-done}
 use Rattle.reading.proofs.Narrower.{read-lines}
 use Rattle.lines.specs.Answered.{answered}
 use Rattle.lines.specs.Lines.{number_of, visit_of, verdict_of, misspelled}
@@ -32,9 +32,6 @@ use Rattle.result_form.specs.ResultForm.{with_number, with_verdict, leaves, resu
 use Rattle.result_form.specs.ResultForm.{read_result}
 use Rattle.old_texts.specs.Unvisited.{unvisited_says, unvisited_form}
 use Rattle.std.specs.Prelude.{Ok, Err}
-
-zero_one : ◌≡◌ {A = ℕ} 0 1 → ⊥
-zero_one e = omega arith
 
 -- no verdict's line is a visit's
 word-no-visit : (v : Verdict) → visit_of (verdict_text v) ≡ misspelled
@@ -48,9 +45,6 @@ verdict-no-visit : (l : List ℕ) (v : Verdict) → verdict_of l ≡ Ok v → vi
 verdict-no-visit l v e = ap visit_of (sym ((verdict-told l).told v e)) ∙ word-no-visit v
 
 -- ---- what was read without fault has a right number on its line 1 and a verdict on its line 2
-
-refused-done : {f : Fault} {n : ℕ} {r : Result} → ◌≡◌ {A = Answer Fault Result} (Answer.refused f n) (Answer.done r) → ⊥
-refused-done e = let z : ◌≡◌ {A = ℕ} 0 1 = cc in absurd (omega arith)
 
 abbrev Stands : Type 0
 Stands = State Fault ResultLine Result

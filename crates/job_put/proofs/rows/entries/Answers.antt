@@ -10,7 +10,7 @@ use Rattle.lists.proofs.Tab.{tab-none, tab-more}
 use Rattle.text.specs.Lists.{places_max}
 use Rattle.jobs.specs.Places.{row_at}
 use Rattle.lines.specs.Texts.{entry_of}
-use Rattle.lines.proofs.Rows.{square-fits}
+use Rattle.lines.proofs.Squares.{square-fits}
 use Rattle.job_put.proofs.rows.entries.Goals as goal
 
 pub loop-k-init : goal.loop-k-init

@@ -1,7 +1,8 @@
 -- `job_put::rows::put_inverse_line` meets its contract.
 use native.Mathlib.Omega.{arith}
 use Rattle.digits.specs.Number.{digits_max}
-use Rattle.lines.proofs.Rows.{square-fits, matrix-long, matrix-within}
+use Rattle.lines.proofs.Squares.{square-fits}
+use Rattle.lines.proofs.Rows.{matrix-long, matrix-within}
 use Rattle.job_put.proofs.Matrix.{matrix-taken}
 use Rattle.job_put.proofs.rows.put_inverse_line.Goals as goal
 

@@ -12,10 +12,11 @@ pub put_system_line-p-requires : goal.put_system_line-p-requires
 put_system_line-p-requires c =
     let j = c.args.j in
     let l = c.loop-i in
+    let grows = system-grows j l.i j.head.n (omega (arith, c.loop-i-test.true)) in
     record {
       accepted = c.requires.accepted;
       live = c.loop-i-test.true;
-      room = omega (arith, l.invariant.next, system-grows j l.i j.head.n (omega (arith, c.loop-i-test.true)), c.requires.room);
+      room = omega (arith, l.invariant.next, grows, c.requires.room);
     }
 
 pub loop-i-preserved : goal.loop-i-preserved
