@@ -9,13 +9,15 @@ use jobs::zero::zero_row;
 use sizes::N;
 use text::PLACES;
 
-// n of the numbers, from place `from` on.
+// n of the numbers, from place `from` on. (copy_from_slice was tried: it costs more for so few.)
 pub fn cells_of(vals: &[i64; PLACES], from: usize, n: usize) -> [i64; N]
     requires { (n ≤ n_max) × (from + n ≤ places_max) }
     ensures { result ≡ cells vals.now from n }
 {
     let mut row = [0; N];
-    row[..n].copy_from_slice(&vals[from..from + n]);
+    for j in 0..n {
+        row[j] = vals[from + j];
+    }
     row
 }
 

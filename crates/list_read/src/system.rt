@@ -20,13 +20,14 @@ pub fn sided_line(text: &[u8], from: usize, n: usize) -> Result<At<Sided>, Fault
     requires { (from ≤ length text.now) × (n ≤ n_max) }
     ensures { result ≡ line_from (said (sided_of n) text.now from) (onward text.now from) }
 {
-    let list = numbers::<PLACES>(text, from, b"row=", n + 1)?;
-    let row = cells_of(&list.value, 0, n);
-    let side = list.value[n];
+    let mut vals = [0; PLACES];
+    let next = numbers(text, from, b"row=", n + 1, &mut vals)?;
+    let row = cells_of(&vals, 0, n);
+    let side = vals[n];
     sided_check(n, row, side)?;
     Ok(At {
         value: Sided { row, side },
-        next: list.next,
+        next,
     })
 }
 

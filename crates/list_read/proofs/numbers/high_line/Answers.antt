@@ -8,24 +8,24 @@ use Rattle.lines.specs.Lines.{numbers_of, high_of}
 use Rattle.line_read.proofs.Checked.{misspelled-line, bad-line, good-line}
 use Rattle.list_read.proofs.numbers.high_line.Goals as goal
 
-pub returns-in_err-cells : goal.returns-in_err-cells
+pub returns-in_err-next : goal.returns-in_err-next
 unfolding high_of
-returns-in_err-cells c =
+returns-in_err-next c =
     let p = c.args in
-    let e : c.from_residual.result ≡ Err c.in_err-cells.field-0.0 = search rules in
-    e ∙ misspelled-line (numbers_of hi_key n_max p.n) (high_check p.n p.lo) p.text.now p.from c.in_err-cells.ensures
+    let e : c.from_residual.result ≡ Err c.in_err-next.field-0.0 = search rules in
+    e ∙ misspelled-line (numbers_of hi_key n_max p.n) (high_check p.n p.lo) p.text.now p.from c.in_err-next.ensures
 
 pub returns-in_err-high_check : goal.returns-in_err-high_check
 unfolding high_of
 returns-in_err-high_check c =
     let p = c.args in
     let e : c.from_residual-in_err-high_check.result ≡ Err c.in_err-high_check.field-0.0 = search rules in
-    e ∙ bad-line (numbers_of hi_key n_max p.n) (high_check p.n p.lo) p.text.now p.from c.in_ok-cells.ensures
+    e ∙ bad-line (numbers_of hi_key n_max p.n) (high_check p.n p.lo) p.text.now p.from c.in_ok-next.ensures
     c.in_err-high_check.ensures
 
 pub returns : goal.returns
 unfolding high_of
 returns c =
     let p = c.args in
-    good-line (numbers_of hi_key n_max p.n) (high_check p.n p.lo) p.text.now p.from c.in_ok-cells.ensures
+    good-line (numbers_of hi_key n_max p.n) (high_check p.n p.lo) p.text.now p.from c.in_ok-next.ensures
     c.in_ok-high_check.ensures

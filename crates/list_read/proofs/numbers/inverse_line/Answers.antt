@@ -17,14 +17,14 @@ use Rattle.list_read.proofs.numbers.inverse_line.Goals as goal
 pub overflow_mul-n : goal.overflow_mul-n
 overflow_mul-n c = omega (arith, square-fits c.args.n c.requires.1)
 
-pub returns-in_err-list : goal.returns-in_err-list
+pub returns-in_err-next : goal.returns-in_err-next
 unfolding inverse_of
-returns-in_err-list c =
+returns-in_err-next c =
     let p = c.args in
     let numbers = numbers_of inv_key places_max (p.n * p.n) in
-    let e : c.from_residual.result ≡ Err c.in_err-list.field-0.0 = search rules in
+    let e : c.from_residual.result ≡ Err c.in_err-next.field-0.0 = search rules in
     e ∙ misspelled-line (λ l. after (numbers l) (λ vals. rows_of vals p.n)) (inverse_check p.n) p.text.now p.from
-    (after-no numbers (λ vals. rows_of vals p.n) p.text.now p.from _ c.in_err-list.ensures)
+    (after-no numbers (λ vals. rows_of vals p.n) p.text.now p.from _ c.in_err-next.ensures)
 
 pub returns-in_err-inverse_check : goal.returns-in_err-inverse_check
 unfolding inverse_of
@@ -33,7 +33,7 @@ returns-in_err-inverse_check c =
     let numbers = numbers_of inv_key places_max (p.n * p.n) in
     let e : c.from_residual-in_err-inverse_check.result ≡ Err c.in_err-inverse_check.field-0.0 = search rules in
     e ∙ bad-line (λ l. after (numbers l) (λ vals. rows_of vals p.n)) (inverse_check p.n) p.text.now p.from
-    (after-yes numbers (λ vals. rows_of vals p.n) p.text.now p.from _ c.in_ok-list.ensures)
+    (after-yes numbers (λ vals. rows_of vals p.n) p.text.now p.from _ c.in_ok-next.ensures)
     (rw c.rows_of-rows.ensures at c.in_err-inverse_check.ensures)
 
 pub returns : goal.returns
@@ -43,5 +43,5 @@ returns c =
     let numbers = numbers_of inv_key places_max (p.n * p.n) in
     rw c.rows_of-rows.ensures
     (good-line (λ l. after (numbers l) (λ vals. rows_of vals p.n)) (inverse_check p.n) p.text.now p.from
-    (after-yes numbers (λ vals. rows_of vals p.n) p.text.now p.from _ c.in_ok-list.ensures)
+    (after-yes numbers (λ vals. rows_of vals p.n) p.text.now p.from _ c.in_ok-next.ensures)
     (rw c.rows_of-rows.ensures at c.in_ok-inverse_check.ensures))

@@ -8,24 +8,24 @@ use Rattle.lines.specs.Lines.{numbers_of, low_of}
 use Rattle.line_read.proofs.Checked.{misspelled-line, bad-line, good-line}
 use Rattle.list_read.proofs.numbers.low_line.Goals as goal
 
-pub returns-in_err-cells : goal.returns-in_err-cells
+pub returns-in_err-next : goal.returns-in_err-next
 unfolding low_of
-returns-in_err-cells c =
+returns-in_err-next c =
     let p = c.args in
-    let e : c.from_residual.result ≡ Err c.in_err-cells.field-0.0 = search rules in
-    e ∙ misspelled-line (numbers_of lo_key n_max p.n) (low_check p.n) p.text.now p.from c.in_err-cells.ensures
+    let e : c.from_residual.result ≡ Err c.in_err-next.field-0.0 = search rules in
+    e ∙ misspelled-line (numbers_of lo_key n_max p.n) (low_check p.n) p.text.now p.from c.in_err-next.ensures
 
 pub returns-in_err-low_check : goal.returns-in_err-low_check
 unfolding low_of
 returns-in_err-low_check c =
     let p = c.args in
     let e : c.from_residual-in_err-low_check.result ≡ Err c.in_err-low_check.field-0.0 = search rules in
-    e ∙ bad-line (numbers_of lo_key n_max p.n) (low_check p.n) p.text.now p.from c.in_ok-cells.ensures
+    e ∙ bad-line (numbers_of lo_key n_max p.n) (low_check p.n) p.text.now p.from c.in_ok-next.ensures
     c.in_err-low_check.ensures
 
 pub returns : goal.returns
 unfolding low_of
 returns c =
     let p = c.args in
-    good-line (numbers_of lo_key n_max p.n) (low_check p.n) p.text.now p.from c.in_ok-cells.ensures
+    good-line (numbers_of lo_key n_max p.n) (low_check p.n) p.text.now p.from c.in_ok-next.ensures
     c.in_ok-low_check.ensures
