@@ -1,4 +1,5 @@
-// A job or a result with one value changed. The place is one of the first two of its kind.
+// A job or a result with one value changed. The place is one of the first two of its kind. (Written in place, as
+// `j.ends.lo[1] = lo`, a change took the check more than ten minutes: tried, and the proof did not close.)
 use jobs::{Equation, Job, Result, Term};
 use sizes::TERMS;
 

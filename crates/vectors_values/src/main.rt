@@ -17,65 +17,61 @@ use values::{LEAST, MOST, term};
 
 fn heads<W: Write>(to: &mut W) -> io::Result<()> {
     let p = values::poly();
-    job(to, b"poly", p)?;
-    job(to, b"number 1000000000", number(p, 1000000000))?;
-    job(to, b"number at most", number(p, MOST))?;
-    job(to, b"n 0", unknowns(p, 0))?;
-    job(to, b"n 7", unknowns(p, 7))?;
-    job(to, b"n at most", unknowns(p, MOST as usize))?;
-    job(to, b"number and n", unknowns(number(p, 1000000000), 7))?;
-    job(to, b"steps 0", steps(p, 0))?;
-    job(to, b"steps 1001", steps(p, 1001))?;
-    job(to, b"steps at most", steps(p, MOST))?;
+    job(to, "poly", p)?;
+    job(to, "number 1000000000", number(p, 1000000000))?;
+    job(to, "number at most", number(p, MOST))?;
+    job(to, "n 0", unknowns(p, 0))?;
+    job(to, "n 7", unknowns(p, 7))?;
+    job(to, "n at most", unknowns(p, MOST as usize))?;
+    job(to, "number and n", unknowns(number(p, 1000000000), 7))?;
+    job(to, "steps 0", steps(p, 0))?;
+    job(to, "steps 1001", steps(p, 1001))?;
+    job(to, "steps at most", steps(p, MOST))?;
     Ok(())
 }
 
 fn sides<W: Write>(to: &mut W) -> io::Result<()> {
     let p = values::poly();
-    job(to, b"low end beyond", ends(p, -262145, 0))?;
-    job(to, b"low end least", ends(p, LEAST, 0))?;
-    job(to, b"high end beyond", ends(p, 0, 262145))?;
-    job(to, b"ends crossed", ends(p, 1, 0))?;
-    job(to, b"ends crossed, high beyond", ends(p, 0, -262145))?;
-    job(to, b"ends without width", ends(p, 0, 0))?;
-    job(to, b"inverse beyond", inverse(p, 4194305))?;
-    job(to, b"inverse least", inverse(p, LEAST))?;
+    job(to, "low end beyond", ends(p, -262145, 0))?;
+    job(to, "low end least", ends(p, LEAST, 0))?;
+    job(to, "high end beyond", ends(p, 0, 262145))?;
+    job(to, "ends crossed", ends(p, 1, 0))?;
+    job(to, "ends crossed, high beyond", ends(p, 0, -262145))?;
+    job(to, "ends without width", ends(p, 0, 0))?;
+    job(to, "inverse beyond", inverse(p, 4194305))?;
+    job(to, "inverse least", inverse(p, LEAST))?;
     Ok(())
 }
 
 fn terms<W: Write>(to: &mut W) -> io::Result<()> {
     let p = values::poly();
-    job(to, b"no term", first_terms(p, term(LEAST, 0, 0), 0))?;
-    job(to, b"17 terms", first_terms(p, term(1, 0, 0), 17))?;
+    job(to, "no term", first_terms(p, term(LEAST, 0, 0), 0))?;
+    job(to, "17 terms", first_terms(p, term(1, 0, 0), 17))?;
     job(
         to,
-        b"17 terms, beyond",
+        "17 terms, beyond",
         first_terms(p, term(LEAST, 0, 0), 17),
     )?;
-    job(
-        to,
-        b"coefficient beyond",
-        first_term(p, term(4194305, 2, 0)),
-    )?;
-    job(to, b"coefficient least", last_term(p, term(LEAST, 0, 0)))?;
-    job(to, b"coefficient zero", last_term(p, term(0, 0, 0)))?;
-    job(to, b"exponent 10", first_term(p, term(1, 10, 0)))?;
-    job(to, b"exponents 255", first_term(p, term(1, 255, 255)))?;
-    job(to, b"degree 4", first_term(p, term(1, 2, 2)))?;
-    job(to, b"degree 4, beyond", first_term(p, term(4194305, 2, 2)))?;
-    job(to, b"terms alike", last_term(p, term(1, 0, 1)))?;
-    job(to, b"terms rising", last_term(p, term(1, 0, 2)))?;
+    job(to, "coefficient beyond", first_term(p, term(4194305, 2, 0)))?;
+    job(to, "coefficient least", last_term(p, term(LEAST, 0, 0)))?;
+    job(to, "coefficient zero", last_term(p, term(0, 0, 0)))?;
+    job(to, "exponent 10", first_term(p, term(1, 10, 0)))?;
+    job(to, "exponents 255", first_term(p, term(1, 255, 255)))?;
+    job(to, "degree 4", first_term(p, term(1, 2, 2)))?;
+    job(to, "degree 4, beyond", first_term(p, term(4194305, 2, 2)))?;
+    job(to, "terms alike", last_term(p, term(1, 0, 1)))?;
+    job(to, "terms rising", last_term(p, term(1, 0, 2)))?;
     Ok(())
 }
 
 fn matrices<W: Write>(to: &mut W) -> io::Result<()> {
     let a = values::linear();
-    job(to, b"linear", a)?;
-    job(to, b"linear, entry beyond", entry(a, 4194305))?;
-    job(to, b"linear, right side beyond", right(a, -4194305))?;
+    job(to, "linear", a)?;
+    job(to, "linear, entry beyond", entry(a, 4194305))?;
+    job(to, "linear, right side beyond", right(a, -4194305))?;
     let e = values::eigen();
-    job(to, b"eigen", e)?;
-    job(to, b"eigen, entry least", entry(e, LEAST))?;
+    job(to, "eigen", e)?;
+    job(to, "eigen, entry least", entry(e, LEAST))?;
     Ok(())
 }
 
@@ -83,48 +79,44 @@ fn matrices<W: Write>(to: &mut W) -> io::Result<()> {
 fn pins<W: Write>(to: &mut W) -> io::Result<()> {
     let e = values::eigen();
     let p = pin(e, 1);
-    job(to, b"pin 1", p)?;
-    job(to, b"pin 0", pin(e, 0))?;
-    job(to, b"pin 3", pin(e, 3))?;
-    job(to, b"pin at most", pin(e, MOST as usize))?;
-    job(to, b"n and pin", pin(unknowns(e, 7), 0))?;
-    job(to, b"pin and low end", pin(ends(e, -262145, 0), 0))?;
-    job(to, b"pin 1, low end beyond", ends(p, -262145, 0))?;
-    job(to, b"pin 1, ends crossed", ends(p, 1, 0))?;
-    job(to, b"pin 1, inverse beyond", inverse(p, 4194305))?;
-    job(to, b"pin 1, steps 1001", steps(p, 1001))?;
-    job(to, b"pin 1, entry least", entry(p, LEAST))?;
+    job(to, "pin 1", p)?;
+    job(to, "pin 0", pin(e, 0))?;
+    job(to, "pin 3", pin(e, 3))?;
+    job(to, "pin at most", pin(e, MOST as usize))?;
+    job(to, "n and pin", pin(unknowns(e, 7), 0))?;
+    job(to, "pin and low end", pin(ends(e, -262145, 0), 0))?;
+    job(to, "pin 1, low end beyond", ends(p, -262145, 0))?;
+    job(to, "pin 1, ends crossed", ends(p, 1, 0))?;
+    job(to, "pin 1, inverse beyond", inverse(p, 4194305))?;
+    job(to, "pin 1, steps 1001", steps(p, 1001))?;
+    job(to, "pin 1, entry least", entry(p, LEAST))?;
     Ok(())
 }
 
 fn results<W: Write>(to: &mut W) -> io::Result<()> {
     let r = values::result();
-    result(to, b"result", r)?;
+    result(to, "result", r)?;
+    result(to, "result number 1000000000", result_number(r, 1000000000))?;
+    result(to, "result visit 999999999", result_visit(r, 999999999))?;
+    result(to, "result visit 1000000000", result_visit(r, 1000000000))?;
+    result(to, "result visit at most", result_visit(r, MOST))?;
     result(
         to,
-        b"result number 1000000000",
-        result_number(r, 1000000000),
-    )?;
-    result(to, b"result visit 999999999", result_visit(r, 999999999))?;
-    result(to, b"result visit 1000000000", result_visit(r, 1000000000))?;
-    result(to, b"result visit at most", result_visit(r, MOST))?;
-    result(
-        to,
-        b"result number and visit",
+        "result number and visit",
         result_visit(result_number(r, 1000000000), 1000000000),
     )?;
     result(
         to,
-        b"result visit and steps",
+        "result visit and steps",
         result_steps(result_visit(r, 1000000000), 1001),
     )?;
-    result(to, b"result steps 1001", result_steps(r, 1001))?;
-    result(to, b"result n 0", result_unknowns(r, 0))?;
-    result(to, b"result n 7", result_unknowns(r, 7))?;
-    result(to, b"result n at most", result_unknowns(r, MOST as usize))?;
-    result(to, b"result low end beyond", result_ends(r, -262145, 0))?;
-    result(to, b"result high end least", result_ends(r, 0, LEAST))?;
-    result(to, b"result ends crossed", result_ends(r, 1, 0))?;
+    result(to, "result steps 1001", result_steps(r, 1001))?;
+    result(to, "result n 0", result_unknowns(r, 0))?;
+    result(to, "result n 7", result_unknowns(r, 7))?;
+    result(to, "result n at most", result_unknowns(r, MOST as usize))?;
+    result(to, "result low end beyond", result_ends(r, -262145, 0))?;
+    result(to, "result high end least", result_ends(r, 0, LEAST))?;
+    result(to, "result ends crossed", result_ends(r, 1, 0))?;
     Ok(())
 }
 

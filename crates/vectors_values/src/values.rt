@@ -3,10 +3,10 @@ use jobs::{Body, Ends, Equation, Head, Job, Kind, Result, Row, Term, Verdict};
 use sizes::{N, TERMS};
 
 // The least number that a place can hold: no sum, difference or negation of it would fit.
-pub const LEAST: i64 = -9223372036854775807 - 1;
+pub const LEAST: i64 = i64::MIN;
 
 // The largest count.
-pub const MOST: u64 = 18446744073709551615;
+pub const MOST: u64 = u64::MAX;
 
 fn pair(a: i64, b: i64) -> [i64; N] {
     let mut xs = [LEAST; N];
