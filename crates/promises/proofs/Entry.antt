@@ -5,6 +5,7 @@ use Rattle.sizes.specs.Sizes.{steps_max}
 use Rattle.jobs.specs.declared.Kind.{Kind}
 use Rattle.jobs.specs.declared.Job.{Job}
 use Rattle.jobs.specs.declared.Equation.{Equation}
+use Rattle.faults.specs.Checks.{and_then}
 use Rattle.checks.specs.Accepted.{GoodSystem, Accepted}
 use Rattle.checks.proofs.AcceptedLaws.{done-check}
 use Rattle.systems.specs.Kinds.{equation_by, equation_of}
@@ -53,5 +54,5 @@ module _ (j : Job) (a : ℕ) where
 
 pub entry_runs : (j : Job) → Accepted j → (a : ℕ)
     → a ≤ steps_max → run_job (allow a j) ≡ Ok (result_of j (job_run j a))
-unfolding run_job result_of
+unfolding run_job result_of and_then
 entry_runs j h a l = rw (done-check (allow a j) (allow-accepted j a h l), allow-outcome j a)

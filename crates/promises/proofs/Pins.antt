@@ -5,7 +5,7 @@ use mathlib.Core.Path.{◌≡◌, refl, sym, ap, ap₂, fun_ext, ◌∙◌}
 use mathlib.Core.List.{List, [], ◌∷◌, ◌++◌, map-append}
 use mathlib.Core.Bool.{Bool, true, false, cond, not, ◌&&◌}
 use lib.Dec.{eqb, leb, ltb}
-use lib.IntN.{pos, negsuc}
+use lib.IntN.{ℤ, pos, negsuc}
 use lib.ListN.{get_or}
 use borrow.Author.Tests.{eqb-true, eq-eqb, ne_eqb, le-leb, le-ltb, lt-ltb}
 use Rattle.digits.specs.Number.{read_number}
@@ -17,7 +17,7 @@ use Rattle.text.proofs.Keys.{both}
 use Rattle.text.proofs.ListLines.{no-list}
 use Rattle.faults.specs.declared.Fault.{Fault}
 use Rattle.faults.specs.Checked.{Status}
-use Rattle.faults.specs.Checks.{bad_unless}
+use Rattle.faults.specs.Checks.{bad_unless, and_then}
 use Rattle.reading.specs.Results.{after, passing}
 use Rattle.reading.specs.NumberLines.{counted, count_line, rowed, row_line}
 use Rattle.reading.specs.Lines.{bytes}
@@ -32,7 +32,6 @@ use Rattle.jobs.specs.Parts.{with_pin}
 use Rattle.term_checks.specs.Ranges.{one_to}
 use Rattle.checks.specs.Checks.{pin_check, line_check, system_check, job_line_status}
 use Rattle.checks.specs.Checks.{system_lines, head_lines, body_lines, check_job}
-use Rattle.lines.specs.Found.{found}
 use Rattle.lines.specs.Lines.{written_pin, pin_of, low_of}
 use Rattle.lines.specs.Texts.{count_text}
 use Rattle.systems.specs.Kinds.{equation_by, equation_of}
@@ -49,19 +48,19 @@ use Rattle.std.specs.Prelude.{Ok, Err, Some, None, Option}
 -- ---- a pin line
 
 written-by : (n p : ℕ) → p ≤ n
-    → after (found (written_pin n p)) (λ u. p) ≡ cond (leb 1 p && ltb p n) (Ok p) (Err Fault.Pin)
+    → after (written_pin n p) (λ u. p) ≡ cond (leb 1 p && ltb p n) (Ok p) (Err Fault.Pin)
 unfolding written_pin one_to bad_unless after
 written-by n p h =
     either p n
     (λ l. rw (le-leb p n h, lt-ltb p n l, ne_eqb p n (λ e. omega arith)) (go (leb 1 p)))
     (λ l. rw (le-leb p n h, le-ltb p n l, eq-eqb p n (omega arith)) (none (leb 1 p)))
   where
-    go : (b : Bool) → after (found (bad_unless ((b && true) && true) Fault.Pin)) (λ u. p)
+    go : (b : Bool) → after (bad_unless ((b && true) && true) Fault.Pin) (λ u. p)
         ≡ cond (b && true) (Ok p) (Err Fault.Pin)
     go true = refl
     go false = refl
 
-    none : (b : Bool) → after (found (bad_unless ((b && true) && false) Fault.Pin)) (λ u. p)
+    none : (b : Bool) → after (bad_unless ((b && true) && false) Fault.Pin) (λ u. p)
         ≡ cond (b && false) (Ok p) (Err Fault.Pin)
     none true = refl
     none false = refl
@@ -71,7 +70,7 @@ unfolding pin_of count_line counted count_of in_count passing after
 pin-says n l = go (read_number (body_of pin_key l))
   where
     go : (v : Option ℤ)
-        → passing (counted Fault.Spelling Fault.Pin (count_of n v)) (λ p. found (written_pin n p)) ≡ pin_by n v
+        → passing (counted Fault.Spelling Fault.Pin (count_of n v)) (λ p. written_pin n p) ≡ pin_by n v
     go None = refl
     go (Some (negsuc m)) = refl
     go (Some (pos p)) =
@@ -130,13 +129,12 @@ module _ (j : Job) (p : ℕ) where
       (fun_ext (equation-ignores h))
 
   pub run-ignores : after_n j.head.kind ≡ JobLine.Lo → run_job (with_pin j p) ≡ run_job j
-  unfolding run_job result_of
+  unfolding run_job result_of and_then
   run-ignores h =
       ap (λ (s : Status). answer_by s (with_pin j p)) (check-ignores h) ∙ go (check_job j)
     where
       go : (s : Status) → answer_by s (with_pin j p) ≡ answer_by s j
-      go (Ok tt) =
-          ap (λ (o : Outcome). Ok (result_of j o)) (outcome-ignores h)
+      go (Ok u) = ap (λ (o : Outcome). Ok (result_of j o)) (outcome-ignores h)
       go (Err r) = refl
 
   text-ignores : (k : Kind) (i : ℕ) → system_text k (with_pin j p) i ≡ system_text k j i

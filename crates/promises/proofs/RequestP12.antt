@@ -14,6 +14,7 @@ use Rattle.jobs.specs.declared.Job.{Job}
 use Rattle.jobs.specs.declared.Result.{Result}
 use Rattle.jobs.specs.declared.ResultLine.{ResultLine}
 use Rattle.jobs.specs.Lines.{result_number}
+use Rattle.checks.specs.Answered.{result_in}
 use Rattle.checks.specs.CheckResult.{visit_check, check_result}
 use Rattle.reading.specs.Lines.{Answer, read}
 use Rattle.reading.specs.Shows.{shown}
@@ -21,7 +22,6 @@ use Rattle.lines.specs.Texts.{count_text}
 use Rattle.run.specs.Job.{run_job}
 use Rattle.result_form.specs.ResultForm.{read_result}
 use Rattle.result_form.specs.ResultShows.{result_shows}
-use Rattle.old_texts.specs.Old.{result_refused}
 use Rattle.old_texts.specs.Unvisited.{unvisited_form}
 use Rattle.old_texts.proofs.Unvisited as unvisited
 use Rattle.promises.proofs.Visits as visits

@@ -23,6 +23,7 @@ use Rattle.jobs.specs.declared.JobLine.{JobLine}
 use Rattle.jobs.specs.declared.Verdict.{Verdict}
 use Rattle.jobs.specs.Lines.{pin_lines, after_n, job_number}
 use Rattle.jobs.specs.Parts.{last_pin, with_pin}
+use Rattle.checks.specs.Answered.{job_in}
 use Rattle.checks.specs.Checks.{pin_check, check_job}
 use Rattle.checks.proofs.AcceptedLaws.{check_done}
 use Rattle.jobs.proofs.LineLaws.{after-n-fourth}

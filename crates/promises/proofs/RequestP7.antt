@@ -44,16 +44,16 @@ module _ (j : Job) (checked : check_job j ≡ Ok tt) where
     X = box_of j.head.n x
 
     -- "one operation gives K for a job and a box,"
-    pub image : gives_image j x ≡ record { status = Ok tt; ends = ends_of j.head.n (image_on X) }
+    pub image : gives_image j x ≡ Ok (ends_of j.head.n (image_on X))
     image = two.image-is j checked x right
 
     -- every image of an accepted job and a right box is taken by the second operation,
-    pub image-taken : image_check j.head.n (gives_image j x).ends ≡ Ok tt
+    pub image-taken : image_check j.head.n (image_in (gives_image j x)) ≡ Ok tt
     image-taken = two.image-fine j checked x right
 
     -- "the other takes X and K and gives the verdict or the next box": together they are the step
-    pub step : gives_move j.head.n x (gives_image j x).ends ≡ move_to j.head.n (step_on X)
-    step = two.step_given j checked x right
+    pub step : gives_move j.head.n x (image_in (gives_image j x)) ≡ Ok (move_to j.head.n (step_on X))
+    step = two.moved_given j checked x right
 
     -- "The run and every other caller go through the two.": from any right box, with any allowance
     pub run-through : (a : ℕ) → run_from j X a ≡ run_by_two j a 0 x
@@ -81,11 +81,11 @@ module _ (n : ℕ) (x k : Ends) (taken : decide_check n x k ≡ Ok tt) where
   abbrev side : Ends → ℕ → Interval
   side e = side_at (box_of n e)
 
-  pub none-exactly : ((gives_move n x k).what ≡ Move.None) ↔ Empty n (side x) (side k)
+  pub none-exactly : ((decided_in (gives_move n x k)).what ≡ Move.None) ↔ Empty n (side x) (side k)
   none-exactly = two.none-exactly n x k taken
 
-  pub unique-exactly : ((gives_move n x k).what ≡ Move.Unique) ↔ Strictly n (side x) (side k)
+  pub unique-exactly : ((decided_in (gives_move n x k)).what ≡ Move.Unique) ↔ Strictly n (side x) (side k)
   unique-exactly = two.unique-exactly n x k taken
 
-  pub stalled-exactly : ((gives_move n x k).what ≡ Move.Stalled) ↔ Unchanged n (side x) (side k)
+  pub stalled-exactly : ((decided_in (gives_move n x k)).what ≡ Move.Stalled) ↔ Unchanged n (side x) (side k)
   stalled-exactly = two.stalled-exactly n x k taken

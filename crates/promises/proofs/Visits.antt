@@ -11,16 +11,17 @@ use Rattle.faults.proofs.Laws.{unless-fine, fine-unless}
 use Rattle.jobs.specs.declared.Job.{Job}
 use Rattle.jobs.specs.declared.Result.{Result}
 use Rattle.checks.specs.Checks.{number_check, check_job}
+use Rattle.checks.specs.Answered.{result_in}
 use Rattle.checks.specs.CheckResult.{visit_check, result_check, result_line_status, check_result}
 use Rattle.run.specs.Job.{result_of, answer_by, run_job}
 use Rattle.std.specs.Prelude.{Ok, Err}
 
 pub alone : (j : Job) → (result_in (run_job j)).visit ≡ 0
-unfolding run_job result_of
+unfolding run_job result_of and_then
 alone j = go (check_job j)
   where
-    go : (st : Status) → (answer_by st j).result.visit ≡ 0
-    go (Ok tt) = refl
+    go : (st : Status) → (result_in (answer_by st j)).visit ≡ 0
+    go (Ok u) = refl
     go (Err r) = refl
 
 pub fine-exactly : (v : ℕ) → (visit_check v ≡ Ok tt) ↔ (v ≤ visit_max)

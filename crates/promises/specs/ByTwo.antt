@@ -6,13 +6,13 @@ use Rattle.jobs.specs.declared.Job.{Job}
 use Rattle.jobs.specs.declared.Verdict.{Verdict}
 use Rattle.step.specs.Values.{box_of}
 use Rattle.one_step.specs.declared.Decided.{Decided}
-use Rattle.one_step.specs.OneStep.{gives_image, gives_move}
+use Rattle.one_step.specs.OneStep.{gives_image, image_in, gives_move, decided_in}
 use Rattle.run.specs.declared.Outcome.{Outcome}
 use Rattle.run.specs.Run.{outcome, settle}
 
 -- K of the job and the box, and what X and K give
 abbrev pub step_by_two : Job → Ends → Decided
-step_by_two j x = gives_move j.head.n x (gives_image j x).ends
+step_by_two j x = decided_in (gives_move j.head.n x (image_in (gives_image j x)))
 
 -- "If the allowance is used up with none of the three reached, the verdict is spent with the box so far"; "Every step
 -- begun is counted"

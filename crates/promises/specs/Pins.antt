@@ -1,5 +1,5 @@
 -- What a pin line says, by the number that it holds.
-use Rattle.std.specs.Prelude.{ℕ, cond, ◌&&◌, leb, ltb, pos, negsuc, Ok, Err, Some, None, Option}
+use Rattle.std.specs.Prelude.{ℕ, ℤ, cond, ◌&&◌, leb, ltb, pos, negsuc, Ok, Err, Some, None, Option}
 use Rattle.faults.specs.declared.Fault.{Fault}
 use Rattle.faults.specs.Checked.{Found}
 
