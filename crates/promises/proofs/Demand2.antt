@@ -13,7 +13,6 @@ use Rattle.jobs.specs.declared.Result.{Result}
 use Rattle.faults.specs.declared.Fault.{Fault}
 use Rattle.faults.specs.Checked.{refused, status_of}
 use Rattle.jobs.specs.declared.Verdict.{Verdict}
-use Rattle.jobs.specs.Zero.{no_job, no_result}
 use Rattle.checks.specs.Checks.{check_job}
 use Rattle.checks.specs.CheckResult.{check_result}
 use Rattle.checks.specs.Accepted.{Accepted}

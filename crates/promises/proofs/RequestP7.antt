@@ -29,6 +29,7 @@ use Rattle.promises.proofs.ByTwo as two
 use Rattle.runs.proofs.Results as runs
 use Rattle.promises.proofs.Results as results
 use Rattle.std.specs.Prelude.{Ok}
+use Rattle.one_step.specs.OneStep.{image_in, decided_in}
 
 module _ (j : Job) (checked : check_job j ≡ Ok tt) where
   -- the image of the box X, and the step on it, as every run has them

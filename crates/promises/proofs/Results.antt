@@ -3,6 +3,7 @@ use Prim.Native.Nat.{ℕ, ◌≤◌}
 use mathlib.Core.Path.{◌≡◌}
 use mathlib.Core.List.{List}
 use lib.ListN.{length}
+use Rattle.checks.specs.Answered.{result_in}
 use Rattle.sizes.specs.Sizes.{text_max, steps_max}
 use Rattle.intervals.specs.Places.{side_at}
 use Rattle.intervals.specs.declared.Interval.{Interval}
