@@ -32,6 +32,7 @@ fn wider(x: [Interval; N], n: usize, i: usize, k: usize) -> usize
     k
 }
 
+// (By place: each turn compares two.)
 fn widest(x: [Interval; N], n: usize) -> usize
     requires x_in { BoxIn n (side_at x) }
     requires some { 1 ≤ n }

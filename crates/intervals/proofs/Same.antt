@@ -16,4 +16,6 @@ number-same a b =
 
 pub same_is : (a b : Interval) → (int_eq a.lo b.lo && int_eq a.hi b.hi) ≡ same_i a b
 unfolding same_i
-same_is a b = ap₂ (λ (s t : Bool). s && t) (number-same a.lo b.lo) (number-same a.hi b.hi) ∙ both-and (eq_ℤ a.lo b.lo) (eq_ℤ a.hi b.hi)
+same_is a b =
+    ap₂ (λ (s t : Bool). s && t) (number-same a.lo b.lo) (number-same a.hi b.hi)
+    ∙ both-and (eq_ℤ a.lo b.lo) (eq_ℤ a.hi b.hi)

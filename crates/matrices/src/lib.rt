@@ -1,5 +1,6 @@
 // The scalar products of a step: "The sums of products follow source document 004: exact, and rounded outward once."
-// Each function works on the first n places of its arrays and leaves the others of its result zero.
+// Each function works on the first n places of its arrays and leaves the others of its result zero. (The loops go by
+// place: a turn reads one place of two arrays, in B down a column, and a chain of zips would be no plainer.)
 #![tactic(auto)]
 
 ghost use Rattle.std.specs.Prelude.{◌≡◌};

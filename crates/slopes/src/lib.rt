@@ -46,8 +46,8 @@ pub struct Over {
     pub slopes: [Interval; N],
 }
 
-// Each term is visited once. Few of the unknowns stand in a term: the first `some` of `live` are their places, so that
-// no slope looks at the others again.
+// Each term is visited once, by its place, as the contract counts them. Few of the unknowns stand in a term: the first
+// `some` of `live` are their places, so that no slope looks at the others again.
 pub fn equation_over(q: Equation, m: [Interval; N], x: [Interval; N], n: usize) -> Over
     requires m_in { BoxIn n (side_at m) }
     requires x_in { BoxIn n (side_at x) }

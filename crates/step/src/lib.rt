@@ -94,7 +94,7 @@ pub fn image(
     joined(m, d, e, n)
 }
 
-// What the image k decides on the box x, by one look at each coordinate.
+// What the image k decides on the box x, by one look at each coordinate: a chain for each question would look again.
 pub fn decide(x: [Interval; N], k: [Interval; N], n: usize) -> Decision
     requires { n ≤ n_max }
     ensures { result ≡ decide_of n x k }

@@ -34,8 +34,8 @@ pub fn ends_of(x: [Interval; N], n: usize) -> Ends
     }
 }
 
-// The rows of a matrix, as an array of rows. (What a closure that makes an array made, for `lists::filled`, the proof did
-// not find.)
+// The rows of a matrix, as an array of rows. (For `lists::filled` the proof did not find what a closure that makes an
+// array made.)
 #[tactic(auto, using(lists::proofs::Fills::fills))]
 pub fn matrix(rows: [Row; N], n: usize) -> [[i64; N]; N]
     requires { n ≤ n_max }

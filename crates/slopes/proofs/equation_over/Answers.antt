@@ -73,7 +73,8 @@ loop-j-init c =
     let k = c.loop-k in
     let few : k.some ≤ length k.live = omega (arith, k.invariant.long, k.invariant.found.few, c.requires.m_in.places) in
     let found = live-taken k.auto.k-end c.loop-k-test.false few k.invariant.found in
-    record { found = found; slopes = live-row-none a.n a.q (side_at a.x) c.loop-i.i _ _ found c.loop-i.invariant.slopes }
+    let row = live-row-none a.n a.q (side_at a.x) c.loop-i.i _ _ found c.loop-i.invariant.slopes in
+    record { found = found; slopes = row }
 
 pub loop-k-2-init : goal.loop-k-2-init
 loop-k-2-init c =
@@ -117,7 +118,8 @@ add-requires c =
     let row = live-row-at a.n a.q (side_at a.x) c.loop-i.i _ _ l u c.loop-j-test.true c.loop-j.invariant.slopes in
     rw (
       row_read _ _ _ _ in-n row c.requires.x_in.places,
-      part a.q (side_at a.x) c.loop-i.i l c.loop-j-test.true c.loop-k-2-test.false c.loop-k-2.invariant c.scaled.ensures,
+      part a.q (side_at a.x) c.loop-i.i l c.loop-j-test.true c.loop-k-2-test.false c.loop-k-2.invariant
+      c.scaled.ensures,
     )
     (slope-sum-fits c.requires.x_in c.requires.q_in _ in-n c.loop-i.i c.loop-i-test.true)
 
@@ -129,7 +131,8 @@ loop-j-preserved c =
     let in-n = l.inside u c.loop-j-test.true in
     let row = live-row-at a.n a.q (side_at a.x) c.loop-i.i _ _ l u c.loop-j-test.true c.loop-j.invariant.slopes in
     let more =
-    part a.q (side_at a.x) c.loop-i.i l c.loop-j-test.true c.loop-k-2-test.false c.loop-k-2.invariant c.scaled.ensures in
+    part a.q (side_at a.x) c.loop-i.i l c.loop-j-test.true c.loop-k-2-test.false c.loop-k-2.invariant
+    c.scaled.ensures in
     let sum = sum_i-more _ _ c.add.ensures (row_read _ _ _ _ in-n row c.requires.x_in.places) more in
     record {
       found = l;
