@@ -8,7 +8,8 @@ use Rattle.rooms.proofs.clear.Goals as goal
 
 pub returns-then-table-lt-TABLE : goal.returns-then-table-lt-TABLE
 unfolding cleared bad_unless on_line
-returns-then-table-lt-TABLE c = rw (lt-leb table_size _ c.if-table-lt-TABLE.true) record { answer = refl; table = refl }
+returns-then-table-lt-TABLE c =
+    rw (lt-leb table_size _ c.if-table-lt-TABLE.true) record { answer = c.refused.ensures; table = refl }
 
 pub returns : goal.returns
 unfolding cleared bad_unless on_line

@@ -1,101 +1,68 @@
 -- `rooms::step` meets its contract: 16, 15, then 7, and the reading in the table where it is not finished.
 use native.Mathlib.Omega.{arith}
-use mathlib.Core.Path.{sym, ap, ◌∙◌}
+use mathlib.Core.Path.{◌≡◌, sym, ap, ◌∙◌}
+use mathlib.Core.Bool.{true, false}
+use borrow.Author.Rules.{rules}
+use Rattle.faults.specs.Checks.{is_bad}
 use Rattle.visits.proofs.Readings.{next-stands}
-use Rattle.room_form.specs.Calls.{finished}
-use Rattle.room_form.proofs.Whole.{whole_long}
-use Rattle.room_form.proofs.Written.{bad-told, all-refused}
-use Rattle.room_form.proofs.Visited.{held_at, at-stands}
-use Rattle.room_form.proofs.Stepping.{step-refused, told, step-short, step-finished, step-moved}
+use Rattle.room_form.specs.Table.{room_at}
+use Rattle.room_form.specs.Calls.{after_step, finished}
+use Rattle.room_form.proofs.Written.{all-refused}
+use Rattle.room_form.proofs.Stepping.{step-refused, step-short, step-finished, step-moved}
 use Rattle.rooms.proofs.step.Goals as goal
+use Rattle.std.specs.Prelude.{Err}
 
-pub returns-then-is_bad : goal.returns-then-is_bad
-returns-then-is_bad c =
-    let args = c.args in
-    let bad = bad-told c.held_status-status.ensures c.is_bad.ensures c.if-is_bad.true in
-    record {
-      answer = all-refused _ _ bad c.held_status-status.ensures c.refused.ensures;
-      table = step-refused args.table.now args.slot args.visit _ bad;
-    }
+pub returns-in_err-job-clause-answer : goal.returns-in_err-job-clause-answer
+returns-in_err-job-clause-answer c =
+    let e : c.from_residual.result ≡ Err c.in_err-job.field-0.0 = search rules in
+    rw e (all-refused _ _ (sym c.in_err-job.ensures.status))
 
-pub room_at-room-requires : goal.room_at-room-requires
-room_at-room-requires c =
-    let args = c.args in
-    let good = bad-told c.held_status-status.ensures c.is_bad.ensures c.if-is_bad.false in
-    let at = held_at args.table.now args.slot args.visit good in
-    (whole_long args.table.now at.is-whole, at.inside)
+pub returns-in_err-job-clause-table : goal.returns-in_err-job-clause-table
+returns-in_err-job-clause-table c =
+    step-refused c.args.table.now c.args.slot c.args.visit _ (ap is_bad (sym c.in_err-job.ensures.status))
 
-pub next_reading-q-requires : goal.next_reading-q-requires
-next_reading-q-requires c =
-    let args = c.args in
-    let good = bad-told c.held_status-status.ensures c.is_bad.ensures c.if-is_bad.false in
-    rw c.room_at-room.ensures (at-stands args.table.now args.slot args.visit good)
+pub write_ready-requires : goal.write_ready-requires
+write_ready-requires c =
+    rw c.next_reading-next.ensures (next-stands _ _ c.in_ok-job.ensures.visit.stands).reading
 
-pub write_ready-w-requires : goal.write_ready-w-requires
-write_ready-w-requires c =
+pub returns-in_err-len-clause-table : goal.returns-in_err-len-clause-table
+returns-in_err-len-clause-table c =
     let args = c.args in
-    let good = bad-told c.held_status-status.ensures c.is_bad.ensures c.if-is_bad.false in
-    rw (c.next_reading-q.ensures, c.room_at-room.ensures)
-    (next-stands _ _ (at-stands args.table.now args.slot args.visit good)).reading
-
-pub returns-then-is_bad-2 : goal.returns-then-is_bad-2
-returns-then-is_bad-2 c =
-    let args = c.args in
-    let good = bad-told c.held_status-status.ensures c.is_bad.ensures c.if-is_bad.false in
-    let next = c.next_reading-q.ensures in
-    let w = rw (next, c.room_at-room.ensures) at c.write_ready-w.ensures in
-    record {
-      answer = told args.table.now args.slot args.visit good w c.is_bad-2.ensures;
-      table = step-short args.table.now args.slot args.visit good w c.is_bad-2.ensures c.if-is_bad-2.true;
-    }
-
-pub returns-then-is_finished : goal.returns-then-is_finished
-returns-then-is_finished c =
-    let args = c.args in
-    let good = bad-told c.held_status-status.ensures c.is_bad.ensures c.if-is_bad.false in
-    let next = c.next_reading-q.ensures in
-    let w = rw (next, c.room_at-room.ensures) at c.write_ready-w.ensures in
-    let done = ap finished (sym c.room_at-room.ensures) ∙ sym c.is_finished.ensures ∙ c.if-is_finished.true in record {
-      answer = told args.table.now args.slot args.visit good w c.is_bad-2.ensures;
-      table = step-finished args.table.now args.slot args.visit good w c.is_bad-2.ensures
-          c.if-is_bad-2.false done;
-    }
-
-pub overflow_mul-slot : goal.overflow_mul-slot
-overflow_mul-slot c =
-    let args = c.args in
-    let good = bad-told c.held_status-status.ensures c.is_bad.ensures c.if-is_bad.false in
-    omega (arith, (held_at args.table.now args.slot args.visit good).inside)
-
-pub overflow_add-slot : goal.overflow_add-slot
-overflow_add-slot c =
-    let args = c.args in
-    let good = bad-told c.held_status-status.ensures c.is_bad.ensures c.if-is_bad.false in
-    omega (arith, (held_at args.table.now args.slot args.visit good).inside)
+    let good = ap is_bad (sym c.in_ok-job.ensures.status) in
+    let next : c.next_reading-next.result ≡ after_step args.table.now args.slot =
+    rw c.in_ok-job.ensures.visit.room c.next_reading-next.ensures in
+    step-short args.table.now args.slot args.visit good (rw next at c.write_ready.ensures) (ap is_bad c.in_err-len.was)
 
 pub put_reading-requires : goal.put_reading-requires
 put_reading-requires c =
-    let args = c.args in
-    let good = bad-told c.held_status-status.ensures c.is_bad.ensures c.if-is_bad.false in
-    let at = held_at args.table.now args.slot args.visit good in
-    let long = whole_long args.table.now at.is-whole in (
-      omega (arith, long, at.inside),
+    let held = c.in_ok-job.ensures.visit in (
+      omega (arith, held.long, held.inside),
       (
-        omega (arith, at.inside),
-        rw (c.next_reading-q.ensures, c.room_at-room.ensures)
-            (next-stands _ _ (at-stands args.table.now args.slot args.visit good)).reading,
+        omega (arith, held.inside),
+        rw c.next_reading-next.ensures (next-stands _ _ held.stands).reading,
       ),
     )
 
-pub returns : goal.returns
-returns c =
+pub returns-then-not-is_finished-clause-table : goal.returns-then-not-is_finished-clause-table
+returns-then-not-is_finished-clause-table c =
     let args = c.args in
-    let good = bad-told c.held_status-status.ensures c.is_bad.ensures c.if-is_bad.false in
-    let q = c.next_reading-q.ensures in
-    let w = rw (q, c.room_at-room.ensures) at c.write_ready-w.ensures in
-    let going = sym c.is_finished.ensures ∙ c.if-is_finished.false in
-    let left = ap finished (sym c.room_at-room.ensures) ∙ going in record {
-      answer = told args.table.now args.slot args.visit good w c.is_bad-2.ensures;
-      table = step-moved args.table.now args.slot args.visit good w c.is_bad-2.ensures
-          c.if-is_bad-2.false left (rw (q, c.room_at-room.ensures) at c.put_reading.ensures);
-    }
+    let held = c.in_ok-job.ensures in
+    let good = ap is_bad (sym held.status) in
+    let next : c.next_reading-next.result ≡ after_step args.table.now args.slot =
+    rw held.visit.room c.next_reading-next.ensures in
+    let going : finished (room_at args.table.now args.slot) ≡ false =
+    rw held.visit.room (sym c.is_finished.ensures ∙ c.if-not-is_finished.true) in
+    step-moved args.table.now args.slot args.visit good (rw next at c.write_ready.ensures) (ap is_bad c.in_ok-len.was)
+    going (rw next at c.put_reading.ensures)
+
+pub returns-else-not-is_finished-clause-table : goal.returns-else-not-is_finished-clause-table
+returns-else-not-is_finished-clause-table c =
+    let args = c.args in
+    let held = c.in_ok-job.ensures in
+    let good = ap is_bad (sym held.status) in
+    let next : c.next_reading-next.result ≡ after_step args.table.now args.slot =
+    rw held.visit.room c.next_reading-next.ensures in
+    let done : finished (room_at args.table.now args.slot) ≡ true =
+    rw held.visit.room (sym c.is_finished.ensures ∙ c.if-not-is_finished.false) in
+    step-finished args.table.now args.slot args.visit good (rw next at c.write_ready.ensures)
+    (ap is_bad c.in_ok-len.was) done
