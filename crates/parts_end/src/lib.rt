@@ -8,60 +8,35 @@ ghost use Rattle.job_parts.specs.Parts.{end_of};
 ghost use Rattle.desk.specs.Desk.{written_status, written_text, run_status, run_text, solved_status, solved_text};
 
 use checks::job::check_job;
-use faults::{Status, Written, and_then};
-use job_parts::Parts;
+use faults::Checked;
+use job_parts::{Parts, end};
+use job_write::write_job;
 use jobs::Job;
+use result_write::write_result;
 
 // Its fault alone.
-pub fn end_status(p: Parts) -> Status
+pub fn end_status(p: Parts) -> Checked<()>
     ensures { result ≡ written_status (end_of p) }
 {
-    let read = job_parts::end(p);
-    let status = read.status;
-    let values = check_job(read.job);
-    and_then(status, values)
+    check_job(end(p)?)
 }
 
 // Written again.
-pub fn end_job(p: Parts, out: &mut [u8]) -> Written
+pub fn end_job(p: Parts, out: &mut [u8]) -> Checked<usize>
     ensures { Leaves (written_status (end_of p)) (written_text (end_of p)) out.old out.new result }
 {
-    let read = job_parts::end(p);
-    let status = read.status;
-    match status {
-        Status::Refused(f, line) => Written {
-            status: Status::Refused(f, line),
-            len: 0,
-        },
-        Status::Done => job_write::write_job(read.job, out),
-    }
+    write_job(end(p)?, out)
 }
 
-fn solve_values(j: Job, out: &mut [u8]) -> Written
+fn solve_values(j: Job, out: &mut [u8]) -> Checked<usize>
     ensures { Leaves (run_status j) (run_text j) out.old out.new result }
 {
-    let a = run::run(j);
-    let status = a.status;
-    match status {
-        Status::Refused(f, line) => Written {
-            status: Status::Refused(f, line),
-            len: 0,
-        },
-        Status::Done => result_write::write_result(a.result, out),
-    }
+    write_result(run::run(j)?, out)
 }
 
 // Answered by the text of its result.
-pub fn end_solve(p: Parts, out: &mut [u8]) -> Written
+pub fn end_solve(p: Parts, out: &mut [u8]) -> Checked<usize>
     ensures { Leaves (solved_status (end_of p)) (solved_text (end_of p)) out.old out.new result }
 {
-    let read = job_parts::end(p);
-    let status = read.status;
-    match status {
-        Status::Refused(f, line) => Written {
-            status: Status::Refused(f, line),
-            len: 0,
-        },
-        Status::Done => solve_values(read.job, out),
-    }
+    solve_values(end(p)?, out)
 }

@@ -1,5 +1,5 @@
 -- The ends of every image, and of every box that is left, can be written.
-use mathlib.Core.Path.{◌≡◌}
+use mathlib.Core.Path.{◌≡◌, sym}
 use Prim.Native.Nat.{ℕ, ◌≤◌, ◌<◌}
 use native.Mathlib.Omega.{arith}
 use Rattle.sizes.specs.Sizes.{n_max, image_max}
@@ -8,8 +8,10 @@ use Rattle.intervals.specs.Ranges.{InI}
 use Rattle.lines.proofs.Checks.{within-below}
 use Rattle.checks.proofs.AcceptedLaws.{check_done}
 use Rattle.step.specs.Values.{side_of}
-use Rattle.one_step.specs.OneStep.{image_status, image_ends, decide_check, gives_image, gives_move}
-use Rattle.one_step.proofs.Given.{ends-in, job-checked, few, moves}
+use Rattle.faults.proofs.Laws.{fine-line, then-done, then-value}
+use Rattle.one_step.specs.declared.Decided.{Decided}
+use Rattle.one_step.specs.OneStep.{image_status, image_ends, gives_image, decide_check, decide_status, gives_move}
+use Rattle.one_step.proofs.Given.{ends-in, job-checked, few}
 use Rattle.one_step.proofs.Whole.{image-fine, image-taken}
 use Rattle.one_step.proofs.Left.{moved_in}
 use Rattle.jobs.specs.declared.Ends.{Ends}
@@ -24,17 +26,31 @@ in-fits n e room h = record {
   high = within-below n e.hi long_max image_max (omega arith) (λ i l. (h i l).high);
 }
 
-pub image-fits : (j : Job) (x : Ends) → image_status j x ≡ Ok tt → EndsFit j.head.n (gives_image j x).ends
-unfolding gives_image
-image-fits j x done =
-    rw done (in-fits j.head.n (image_ends j x) (check_done j (job-checked j x done)).few
-    (ends-in j.head.n image_max (image_ends j x) (image-fine j x done)))
+module _ (j : Job) (x : Ends) {k : Ends} (told : Ok k ≡ gives_image j x) where
+  pub image-done : image_status j x ≡ Ok tt
+  unfolding gives_image
+  image-done = then-done (image_status j x) _ (sym told)
 
-pub move-fits : (n : ℕ) (x k : Ends) → decide_check n x k ≡ Ok tt → EndsFit n (gives_move n x k).ends
-move-fits n x k fine = rw (moves n x k fine) (in-fits n _ (few n x k fine) (moved_in n x k fine))
+  pub image-is : k ≡ image_ends j x
+  unfolding gives_image
+  image-is = then-value (image_status j x) _ (sym told)
 
--- an image is taken, so that it decides
-pub step_fits : (j : Job) (x : Ends) → image_status j x ≡ Ok tt
-    → EndsFit j.head.n (gives_move j.head.n x (gives_image j x).ends).ends
-unfolding gives_image
-step_fits j x done = rw done (move-fits j.head.n x (image_ends j x) (image-taken j x done))
+  pub image-fits : EndsFit j.head.n k
+  image-fits =
+      rw image-is (in-fits j.head.n (image_ends j x) (check_done j (job-checked j x image-done)).few
+      (ends-in j.head.n image_max (image_ends j x) (image-fine j x image-done)))
+
+  -- an image is taken, so that it decides
+  pub decides : decide_check j.head.n x k ≡ Ok tt
+  decides = rw image-is (image-taken j x image-done)
+
+module _ (n : ℕ) (x k : Ends) {d : Decided} (told : Ok d ≡ gives_move n x k) where
+  pub move-done : decide_status n x k ≡ Ok tt
+  unfolding gives_move
+  move-done = then-done (decide_status n x k) _ (sym told)
+
+  pub move-fits : EndsFit n d.ends
+  unfolding gives_move
+  move-fits =
+      let fine = fine-line _ 0 move-done in
+      rw (then-value (decide_status n x k) _ (sym told)) (in-fits n _ (few n x k fine) (moved_in n x k fine))

@@ -3,7 +3,7 @@
 
 pub mod putting;
 
-ghost use Rattle.std.specs.Prelude.{◌≤◌, ◌≡◌, length, take};
+ghost use Rattle.std.specs.Prelude.{◌≤◌, ◌≡◌, length, take, Ok};
 ghost use Rattle.sizes.specs.Sizes.{text_max};
 ghost use Rattle.faults.specs.Answer.{Leaves};
 ghost use Rattle.one_step.specs.OneStep.{image_status, decide_status};
@@ -11,7 +11,8 @@ ghost use Rattle.step_text.specs.Lines.{image_lines, move_lines, step_lines, End
 ghost use Rattle.step_text.specs.Texts.{image_text, step_text_of, decide_text};
 ghost use Rattle.step_text.specs.Texts.{own_status, own_image, own_step, box_status, box_image};
 
-use faults::{Status, Written};
+use faults::Checked;
+use job_read::read_job;
 use jobs::{Ends, Job};
 use one_step::Decided;
 use putting::{put_image, put_move};
@@ -19,36 +20,36 @@ use sizes::TEXT;
 use writing::put_whole;
 
 // The first bytes of a buffer of a text's size, whole or not at all.
-fn hand_over(text: &[u8], len: usize, out: &mut [u8]) -> Written
+fn hand_over(text: &[u8], len: usize, out: &mut [u8]) -> Checked<usize>
     requires text_len { length text.now ≡ text_max }
     requires len_le_text_max { len ≤ text_max }
-    ensures { Leaves Ok tt (take len text.now) out.old out.new result }
+    ensures { Leaves (Ok tt) (take len text.now) out.old out.new result }
 {
     put_whole(&text[..len], out)
 }
 
-fn image_lines(n: usize, k: Ends, out: &mut [u8]) -> Written
+fn image_lines(n: usize, k: Ends, out: &mut [u8]) -> Checked<usize>
     requires { EndsFit n k }
-    ensures { Leaves Ok tt (image_lines n k) out.old out.new result }
+    ensures { Leaves (Ok tt) (image_lines n k) out.old out.new result }
 {
     let mut text = [0u8; TEXT];
     let len = put_image(&mut text, 0, n, k);
     hand_over(&text, len, out)
 }
 
-fn move_lines(n: usize, d: Decided, out: &mut [u8]) -> Written
+fn move_lines(n: usize, d: Decided, out: &mut [u8]) -> Checked<usize>
     requires { EndsFit n d.ends }
-    ensures { Leaves Ok tt (move_lines n d) out.old out.new result }
+    ensures { Leaves (Ok tt) (move_lines n d) out.old out.new result }
 {
     let mut text = [0u8; TEXT];
     let len = put_move(&mut text, 0, n, d);
     hand_over(&text, len, out)
 }
 
-fn step_lines(n: usize, k: Ends, d: Decided, out: &mut [u8]) -> Written
+fn step_lines(n: usize, k: Ends, d: Decided, out: &mut [u8]) -> Checked<usize>
     requires ends_fit { EndsFit n k }
     requires ends_fit_2 { EndsFit n d.ends }
-    ensures { Leaves Ok tt (step_lines n k d) out.old out.new result }
+    ensures { Leaves (Ok tt) (step_lines n k d) out.old out.new result }
 {
     let mut text = [0u8; TEXT];
     let at = put_image(&mut text, 0, n, k);
@@ -56,95 +57,49 @@ fn step_lines(n: usize, k: Ends, d: Decided, out: &mut [u8]) -> Written
     hand_over(&text, len, out)
 }
 
-fn write_image(j: Job, x: Ends, out: &mut [u8]) -> Written
+fn write_image(j: Job, x: Ends, out: &mut [u8]) -> Checked<usize>
     ensures { Leaves (image_status j x) (image_text j x) out.old out.new result }
 {
-    let shown = one_step::image(j, x);
-    let status = shown.status;
-    let k = shown.ends;
-    match status {
-        Status::Refused(f, line) => Written {
-            status: Status::Refused(f, line),
-            len: 0,
-        },
-        Status::Done => image_lines(j.head.n, k, out),
-    }
+    image_lines(j.head.n, one_step::image(j, x)?, out)
 }
 
-fn write_step(j: Job, x: Ends, out: &mut [u8]) -> Written
+fn write_step(j: Job, x: Ends, out: &mut [u8]) -> Checked<usize>
     ensures { Leaves (image_status j x) (step_text_of j x) out.old out.new result }
 {
-    let shown = one_step::image(j, x);
-    let status = shown.status;
-    let k = shown.ends;
-    match status {
-        Status::Refused(f, line) => Written {
-            status: Status::Refused(f, line),
-            len: 0,
-        },
-        Status::Done => step_lines(j.head.n, k, one_step::decide(j.head.n, x, k), out),
-    }
+    let k = one_step::image(j, x)?;
+    let d = one_step::decide(j.head.n, x, k)?;
+    step_lines(j.head.n, k, d, out)
 }
 
 // K of a job text and a box.
-pub fn image_in(text: &[u8], x: Ends, out: &mut [u8]) -> Written
+pub fn image_in(text: &[u8], x: Ends, out: &mut [u8]) -> Checked<usize>
     ensures { Leaves (box_status text.now x) (box_image text.now x) out.old
         out.new result }
 {
-    let read = job_read::read_job(text);
-    let status = read.status;
-    match status {
-        Status::Refused(f, line) => Written {
-            status: Status::Refused(f, line),
-            len: 0,
-        },
-        Status::Done => write_image(read.job, x, out),
-    }
+    write_image(read_job(text)?, x, out)
 }
 
 // K of a job text's own starting box.
-pub fn image(text: &[u8], out: &mut [u8]) -> Written
+pub fn image(text: &[u8], out: &mut [u8]) -> Checked<usize>
     ensures { Leaves (own_status text.now) (own_image text.now) out.old
         out.new result }
 {
-    let read = job_read::read_job(text);
-    let status = read.status;
-    match status {
-        Status::Refused(f, line) => Written {
-            status: Status::Refused(f, line),
-            len: 0,
-        },
-        Status::Done => write_image(read.job, read.job.ends, out),
-    }
+    let j = read_job(text)?;
+    write_image(j, j.ends, out)
 }
 
 // The same, and what it decides.
-pub fn step(text: &[u8], out: &mut [u8]) -> Written
+pub fn step(text: &[u8], out: &mut [u8]) -> Checked<usize>
     ensures { Leaves (own_status text.now) (own_step text.now) out.old
         out.new result }
 {
-    let read = job_read::read_job(text);
-    let status = read.status;
-    match status {
-        Status::Refused(f, line) => Written {
-            status: Status::Refused(f, line),
-            len: 0,
-        },
-        Status::Done => write_step(read.job, read.job.ends, out),
-    }
+    let j = read_job(text)?;
+    write_step(j, j.ends, out)
 }
 
 // What X and K decide.
-pub fn decide(n: usize, x: Ends, k: Ends, out: &mut [u8]) -> Written
+pub fn decide(n: usize, x: Ends, k: Ends, out: &mut [u8]) -> Checked<usize>
     ensures { Leaves (decide_status n x k) (decide_text n x k) out.old out.new result }
 {
-    let d = one_step::decide(n, x, k);
-    let status = d.status;
-    match status {
-        Status::Refused(f, line) => Written {
-            status: Status::Refused(f, line),
-            len: 0,
-        },
-        Status::Done => move_lines(n, d, out),
-    }
+    move_lines(n, one_step::decide(n, x, k)?, out)
 }

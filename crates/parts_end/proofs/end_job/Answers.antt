@@ -1,10 +1,16 @@
 -- `parts_end::end_job` meets its contract.
-use Rattle.desk.proofs.Answer.{read-bad, read-good, written-as}
+use Rattle.std.proofs.lemmas.Result.{err_from_is_err_and}
+use Rattle.faults.specs.Checks.{and_then}
+use Rattle.faults.proofs.Answer.{values-bad}
+use Rattle.desk.proofs.Answer.{written-as}
 use Rattle.parts_end.proofs.end_job.Goals as goal
 
-pub returns-in-Refused : goal.returns-in-Refused
-returns-in-Refused c = rw (← c.end-read.ensures) (read-bad _ c.in-Refused.is)
+pub returns-in_err-end : goal.returns-in_err-end
+unfolding and_then
+returns-in_err-end c =
+    let p = err_from_is_err_and c.from_residual.result c.from_residual.ensures.1 in
+    rw (p.1, p.2) (written-as c.in_err-end.ensures (values-bad _ _ _))
 
-pub returns-in-Done : goal.returns-in-Done
-returns-in-Done c =
-    written-as c.end-read.result c.end-read.ensures (read-good c.in-Done.is c.write_job.ensures)
+pub returns : goal.returns
+unfolding and_then
+returns c = written-as c.in_ok-end.ensures c.write_job.ensures

@@ -1,11 +1,15 @@
 -- `parts_end::end_solve` meets its contract.
-use Rattle.desk.proofs.Answer.{read-bad, read-good}
+use Rattle.std.proofs.lemmas.Result.{err_from_is_err_and}
+use Rattle.faults.specs.Checks.{and_then}
+use Rattle.faults.proofs.Answer.{values-bad}
 use Rattle.parts_end.proofs.end_solve.Goals as goal
 
-pub returns-in-Refused : goal.returns-in-Refused
-returns-in-Refused c = rw (← c.end-read.ensures) (read-bad _ c.in-Refused.is)
+pub returns-in_err-end : goal.returns-in_err-end
+unfolding and_then
+returns-in_err-end c =
+    let p = err_from_is_err_and c.from_residual.result c.from_residual.ensures.1 in
+    rw (p.1, p.2, ← c.in_err-end.ensures) (values-bad _ _ _)
 
-pub returns-in-Done : goal.returns-in-Done
-returns-in-Done c =
-    rw (← c.end-read.ensures)
-    (read-good c.in-Done.is c.solve_values.ensures)
+pub returns : goal.returns
+unfolding and_then
+returns c = rw (← c.in_ok-end.ensures) c.solve_values.ensures

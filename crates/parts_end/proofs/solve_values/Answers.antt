@@ -1,14 +1,16 @@
 -- `parts_end::solve_values` meets its contract.
+use Rattle.std.proofs.lemmas.Result.{err_from_is_err_and}
+use Rattle.faults.specs.Checks.{and_then}
+use Rattle.faults.proofs.Answer.{values-bad}
 use Rattle.desk.specs.Desk.{run_status, run_text}
-use Rattle.desk.proofs.Answer.{read-bad, read-good}
 use Rattle.parts_end.proofs.solve_values.Goals as goal
 
-pub returns-in-Refused : goal.returns-in-Refused
-unfolding run_status run_text
-returns-in-Refused c = rw (← c.run-a.ensures) (read-bad _ c.in-Refused.is)
+pub returns-in_err-run : goal.returns-in_err-run
+unfolding run_status run_text and_then
+returns-in_err-run c =
+    let p = err_from_is_err_and c.from_residual.result c.from_residual.ensures.1 in
+    rw (p.1, p.2, ← c.in_err-run.ensures) (values-bad _ _ _)
 
-pub returns-in-Done : goal.returns-in-Done
-unfolding run_status run_text
-returns-in-Done c =
-    rw (← c.run-a.ensures)
-    (read-good c.in-Done.is c.write_result.ensures)
+pub returns : goal.returns
+unfolding run_status run_text and_then
+returns c = rw (← c.in_ok-run.ensures) c.write_result.ensures

@@ -1,33 +1,24 @@
 -- decide: a fault is handed on, and nothing is written; what is decided can be.
-use mathlib.Core.Path.{sym, ap, ◌∙◌}
+use mathlib.Core.Path.{sym}
+use Rattle.std.proofs.lemmas.Result.{err_from_is_err_and}
 use Rattle.faults.proofs.Answer.{values-bad}
-use Rattle.faults.proofs.Laws.{fine-line}
-use Rattle.one_step.specs.declared.Decided.{Decided}
-use Rattle.one_step.proofs.Given.{decide-status}
+use Rattle.faults.proofs.Laws.{then-refused}
+use Rattle.one_step.specs.OneStep.{decide_status, gives_move}
 use Rattle.step_text.specs.Texts.{decide_text}
-use Rattle.step_text.proofs.Fits.{move-fits}
+use Rattle.step_text.proofs.Fits.{move-done, move-fits}
 use Rattle.step_text.proofs.decide.Goals as goal
 
+pub returns-in_err-decide : goal.returns-in_err-decide
+unfolding gives_move
+returns-in_err-decide c =
+    let a = c.args in
+    let p = err_from_is_err_and c.from_residual.result c.from_residual.ensures.1 in
+    rw (p.1, p.2, then-refused (decide_status a.n a.x a.k) _ (sym c.in_err-decide.ensures)) (values-bad _ _ _)
+
 pub move_lines-requires : goal.move_lines-requires
-move_lines-requires c =
-    let args = c.args in
-    let told =
-    ap (λ (d : Decided). d.status) c.decide-d.ensures ∙ decide-status args.n args.x args.k in
-    let fine = fine-line _ 0 (sym told ∙ c.in-Done.is) in
-    rw c.decide-d.ensures (move-fits args.n args.x args.k fine)
+move_lines-requires c = move-fits c.args.n c.args.x c.args.k c.in_ok-decide.ensures
 
-pub returns-in-Refused : goal.returns-in-Refused
-returns-in-Refused c =
-    let args = c.args in
-    let told =
-    ap (λ (d : Decided). d.status) c.decide-d.ensures ∙ decide-status args.n args.x args.k in
-    rw (sym told ∙ c.in-Refused.is)
-    (values-bad (decide_text args.n args.x args.k) args.out.now _ _)
-
-pub returns-in-Done : goal.returns-in-Done
+pub returns : goal.returns
 unfolding decide_text
-returns-in-Done c =
-    let args = c.args in
-    let told =
-    ap (λ (d : Decided). d.status) c.decide-d.ensures ∙ decide-status args.n args.x args.k in
-    rw (sym told ∙ c.in-Done.is, ← c.decide-d.ensures) c.move_lines.ensures
+returns c =
+    rw (move-done c.args.n c.args.x c.args.k c.in_ok-decide.ensures, ← c.in_ok-decide.ensures) c.move_lines.ensures

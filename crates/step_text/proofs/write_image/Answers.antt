@@ -1,27 +1,23 @@
 -- write_image: a fault is handed on, and nothing is written; an image can be.
-use mathlib.Core.Path.{sym, ap, ◌∙◌}
+use mathlib.Core.Path.{sym}
+use Rattle.std.proofs.lemmas.Result.{err_from_is_err_and}
 use Rattle.faults.proofs.Answer.{values-bad}
-use Rattle.one_step.specs.declared.Imaged.{Imaged}
-use Rattle.one_step.proofs.Given.{image-status}
+use Rattle.faults.proofs.Laws.{then-refused}
+use Rattle.one_step.specs.OneStep.{image_status, gives_image}
 use Rattle.step_text.specs.Texts.{image_text}
-use Rattle.step_text.proofs.Fits.{image-fits}
+use Rattle.step_text.proofs.Fits.{image-done, image-fits}
 use Rattle.step_text.proofs.write_image.Goals as goal
 
+pub returns-in_err-image : goal.returns-in_err-image
+unfolding gives_image
+returns-in_err-image c =
+    let p = err_from_is_err_and c.from_residual.result c.from_residual.ensures.1 in
+    rw (p.1, p.2, then-refused (image_status c.args.j c.args.x) _ (sym c.in_err-image.ensures)) (values-bad _ _ _)
+
 pub image_lines-requires : goal.image_lines-requires
-image_lines-requires c =
-    let args = c.args in
-    let told = ap (λ (i : Imaged). i.status) c.image-shown.ensures ∙ image-status args.j args.x in
-    rw c.image-shown.ensures (image-fits args.j args.x (sym told ∙ c.in-Done.is))
+image_lines-requires c = image-fits c.args.j c.args.x c.in_ok-image.ensures
 
-pub returns-in-Refused : goal.returns-in-Refused
-returns-in-Refused c =
-    let args = c.args in
-    let told = ap (λ (i : Imaged). i.status) c.image-shown.ensures ∙ image-status args.j args.x in
-    rw (sym told ∙ c.in-Refused.is) (values-bad (image_text args.j args.x) args.out.now _ _)
-
-pub returns-in-Done : goal.returns-in-Done
+pub returns : goal.returns
 unfolding image_text
-returns-in-Done c =
-    let args = c.args in
-    let told = ap (λ (i : Imaged). i.status) c.image-shown.ensures ∙ image-status args.j args.x in
-    rw (sym told ∙ c.in-Done.is, ← c.image-shown.ensures) c.image_lines.ensures
+returns c =
+    rw (image-done c.args.j c.args.x c.in_ok-image.ensures, ← c.in_ok-image.ensures) c.image_lines.ensures
