@@ -1,7 +1,7 @@
 -- The answers of a listing, and that its pieces can be written and make up its text.
 use Prim.Native.Nat.{ℕ, ◌<◌}
 use native.Mathlib.Omega.{arith}
-use mathlib.Core.Path.{◌≡◌, refl, sym, ap, ◌∙◌}
+use mathlib.Core.Path.{◌≡◌, refl, sym, ap}
 use mathlib.Core.List.{List, ◌++◌}
 use lib.IntN.{ℤ, pos, nat_abs}
 use lib.ListN.{length, take, length-append}
@@ -17,27 +17,26 @@ use Rattle.digits.specs.Number.{long_max}
 use Rattle.text.specs.Lists.{Below}
 use Rattle.reading.proofs.NumberLines.{below-tab}
 use Rattle.writing.proofs.Lists.{taken-first}
-use Rattle.faults.specs.declared.Fault.{Fault}
-use Rattle.faults.specs.Checked.{Status, refused, status_of}
+use Rattle.faults.specs.declared.Refusal.{Refusal}
+use Rattle.faults.specs.Checked.{Checked}
 use Rattle.faults.specs.Checks.{and_then}
-use Rattle.faults.proofs.Laws.{good-first}
+use Rattle.faults.proofs.Laws.{then-done, then-value, then-refused}
 use Rattle.jobs.specs.declared.Job.{Job}
 use Rattle.checks.specs.Accepted.{Accepted}
 use Rattle.checks.proofs.AcceptedLaws.{check_done}
 use Rattle.slopes.specs.Ranges.{BoxIn}
 use Rattle.step.specs.Values.{low_ends, high_ends}
 use Rattle.job_form.specs.JobForm.{read_job}
-use Rattle.halving.specs.declared.Halved.{Halved}
 use Rattle.halving.specs.Boxes.{Listed, boxes_of}
 use Rattle.halving.specs.Lists.{numbers_of}
-use Rattle.halving.specs.Halving.{halve_status, halved_by, Halves}
+use Rattle.halving.specs.Halving.{halve_status, Halves}
 use Rattle.halving.proofs.Lists.{numbers-length}
 use Rattle.halving.proofs.Refusals.{depth-few}
 use Rattle.halving.proofs.Answers.{few-boxes, job-fine, depth-done}
 use Rattle.halving.proofs.Each.{listed_in}
 use Rattle.listing.specs.declared.Listing.{Listing}
 use Rattle.listing.specs.Lines.{EntryIn, head_lines, first_lines}
-use Rattle.listing.specs.Listing.{no_listing, listing_text, ListsAs, ListsJob, list_status, ListsText}
+use Rattle.listing.specs.Listing.{listing_of, listing_text, ListsJob, list_status, ListsText}
 use Rattle.listing.proofs.Entries.{box_at, box-among, low-at, high-at, first-lines}
 use Rattle.std.specs.Prelude.{Ok, Err}
 
@@ -83,41 +82,20 @@ module _ (j : Job) (a : Accepted j) (depth : ℕ) (rest : List ℤ) where
       (rw (take_all (length bs) bs (omega arith)) at (first-lines n rest bs a.few (length bs) (omega arith)))
 
 -- ---- of values
-module _ (j : Job) (depth : ℤ) (old : List ℤ) where
-  lists-refused : (f : Fault) (line : ℕ) → ListsAs (refused f line) j depth old old
-      (no_listing (refused f line))
-  lists-refused f line = record {
-    answer = refl;
-    list = refl;
-    readable = record { few = omega arith; each = λ i l. absurd (omega arith) };
-  }
+module _ (j : Job) (depth : ℤ) (old : List ℤ) {new : List ℤ} where
+  pub job-refused : {e : Refusal} → Halves j depth old new (Err e) → ListsJob j depth old new (Err e)
+  unfolding and_then
+  job-refused h =
+      let s = then-refused (halve_status j depth (length old)) _ (sym h.answer) in
+      rw s record { answer = refl; list = rw s at h.list; readable = tt }
 
-  -- what halving answers beside its boxes
-  kept : (st : Status) (count : ℕ) → status_of (halved_by st count) ≡ st
-  kept (Ok tt) count = refl
-  kept (Err r) count = refl
-
-  module _ {new : List ℤ} {h : Halved} (halves : Halves j depth old new h) where
-    status-is : halve_status j depth (length old) ≡ h.status
-    status-is = sym (ap (λ (h : Halved). h.status) halves.answer ∙ kept _ _)
-
-    count-is : halve_status j depth (length old) ≡ Ok tt → h.boxes ≡ length (boxes_of j (nat_abs depth))
-    count-is e = ap (λ (h : Halved). h.boxes) (rw e at halves.answer)
-
-  pub job-refused : {new : List ℤ} {h : Halved} (f : Fault) (line : ℕ) → h.status ≡ refused f line
-      → Halves j depth old new h → ListsJob j depth old new (no_listing (refused f line))
-  job-refused f line e h =
-      let s = status-is h ∙ e in
-      rw s (rw (rw s at h.list) (lists-refused f line))
-
-  pub job-listed : {new : List ℤ} {h : Halved} → h.status ≡ Ok tt → Halves j depth old new h
-      → ListsJob j depth old new
-      (record { status = Ok tt; number = j.head.number; n = j.head.n; boxes = h.boxes })
-  job-listed {new} {h} e halves =
-      let s = status-is halves ∙ e in
-      let count = count-is halves s in
+  pub job-listed : {boxes : ℕ} → Halves j depth old new (Ok boxes) → ListsJob j depth old new (Ok (listing_of j boxes))
+  unfolding and_then
+  job-listed h =
+      let s = then-done (halve_status j depth (length old)) _ (sym h.answer) in
+      let count = then-value (halve_status j depth (length old)) _ (sym h.answer) in
       let few = pow_mono (depth-few depth (depth-done j depth (length old) s)) in
-      let list = rw s at halves.list in
+      let list = rw s at h.list in
       rw s (record {
         answer = rw count refl;
         list = list;
@@ -130,12 +108,11 @@ module _ (j : Job) (depth : ℤ) (old : List ℤ) where
 
 -- ---- of a job text
 module _ (t : List ℕ) (depth : ℤ) (old : List ℤ) where
-  pub text-refused : (f : Fault) (line : ℕ) → status_of (read_job t) ≡ refused f line
-      → ListsText t depth old old (no_listing (refused f line))
+  pub text-refused : {e : Refusal} → Err e ≡ read_job t → ListsText t depth old old (Err e)
   unfolding list_status and_then
-  text-refused f line e = rw e (lists-refused (job_in (read_job t)) depth old f line)
+  text-refused w = rw (← w) record { answer = refl; list = refl; readable = tt }
 
-  pub text-listed : {new : List ℤ} {r : Listing} → status_of (read_job t) ≡ Ok tt
-      → ListsJob (job_in (read_job t)) depth old new r → ListsText t depth old new r
-  unfolding list_status
-  text-listed e h = rw (good-first _ _ e) h
+  pub text-listed : {j : Job} {new : List ℤ} {r : Checked Listing} → Ok j ≡ read_job t
+      → ListsJob j depth old new r → ListsText t depth old new r
+  unfolding list_status and_then
+  text-listed w h = rw (← w) h

@@ -1,9 +1,10 @@
 -- What is answered where the boxes of a job, or of a job text, are listed.
-use Rattle.std.specs.Prelude.{ℕ, ◌≤◌, ◌<◌, ◌≡◌, List, [], ◌∷◌, ◌++◌, ℤ, nat_abs, length, take, Ok, Err}
+use Rattle.std.specs.Prelude.{ℕ, ◌≤◌, ◌<◌, ◌≡◌, List, [], ◌∷◌, ◌++◌, ℤ, nat_abs, length, take, Ok, IfOk}
 use Rattle.sizes.specs.Sizes.{boxes_max}
 use Rattle.faults.specs.Checks.{and_then}
-use Rattle.faults.specs.Checked.{Status, status_of}
+use Rattle.faults.specs.Checked.{Checked, Status, status_of}
 use Rattle.jobs.specs.declared.Job.{Job}
+use Rattle.checks.specs.Answered.{job_in}
 use Rattle.job_form.specs.JobForm.{read_job}
 use Rattle.step.specs.Values.{low_ends, high_ends}
 use Rattle.halving.specs.Boxes.{Listed, boxes_of}
@@ -25,17 +26,11 @@ listing_text j depth =
     head_lines j.head.number (length (boxes_of j depth)) ++ each_lines j.head.n (boxes_of j depth)
 
 -- ---- the answers
-abbrev pub no_listing : Status → Listing
-no_listing st = record { status = st; number = 0; n = 0; boxes = 0 }
+abbrev pub listing_of : Job → ℕ → Listing
+listing_of j boxes = record { number = j.head.number; n = j.head.n; boxes = boxes }
 
-abbrev pub listing_by : Status → Job → ℕ → Listing
-listing_by (Ok tt) j boxes = record {
-  status = Ok tt;
-  number = j.head.number;
-  n = j.head.n;
-  boxes = boxes;
-}
-listing_by (Err r) j boxes = no_listing (Err r)
+abbrev pub listing_by : Status → Job → ℕ → Checked Listing
+listing_by st j boxes = and_then st (Ok (listing_of j boxes))
 
 -- the pieces of a listing can be written from its list
 pub record Readable (l : Listing) (list : List ℤ) : Type 0 where
@@ -43,18 +38,18 @@ pub record Readable (l : Listing) (list : List ℤ) : Type 0 where
   pub each : (i : ℕ) → i < l.boxes → EntryIn l.n list i
 
 -- a listing with the status st, of the job j with a depth, in the list that was `old`
-pub record ListsAs (st : Status) (j : Job) (depth : ℤ) (old new : List ℤ) (r : Listing) : Type 0 where
+pub record ListsAs (st : Status) (j : Job) (depth : ℤ) (old new : List ℤ) (r : Checked Listing) : Type 0 where
   pub answer : r ≡ listing_by st j (length (boxes_of j (nat_abs depth)))
   pub list : new ≡ list_after st (numbers_of j.head.n (boxes_of j (nat_abs depth))) old
-  pub readable : Readable r new
+  pub readable : IfOk r (λ l. Readable l new)
 
 -- of values
-abbrev pub ListsJob : Job → ℤ → List ℤ → List ℤ → Listing → Type 0
+abbrev pub ListsJob : Job → ℤ → List ℤ → List ℤ → Checked Listing → Type 0
 ListsJob j depth old new r = ListsAs (halve_status j depth (length old)) j depth old new r
 
 -- of a job text: "the job's own" refusals come first
 unfoldable pub list_status : List ℕ → ℤ → ℕ → Status
 list_status t depth room = and_then (status_of (read_job t)) (halve_status (job_in (read_job t)) depth room)
 
-abbrev pub ListsText : List ℕ → ℤ → List ℤ → List ℤ → Listing → Type 0
+abbrev pub ListsText : List ℕ → ℤ → List ℤ → List ℤ → Checked Listing → Type 0
 ListsText t depth old new r = ListsAs (list_status t depth (length old)) (job_in (read_job t)) depth old new r

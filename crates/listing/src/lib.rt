@@ -7,61 +7,39 @@ ghost use Rattle.integers.specs.Equal.{eq_ℤ};
 ghost use Rattle.writing.specs.Wrote.{Wrote, line};
 ghost use Rattle.listing.specs.Lines.{last_max, box_text, head_of, ends_from, entry_lines, all_lines};
 ghost use Rattle.listing.specs.Lines.{Piece, EndsIn, EntryIn};
-ghost use Rattle.listing.specs.Listing.{no_listing, Readable, ListsJob, ListsText};
+ghost use Rattle.listing.specs.Listing.{Readable, ListsJob, ListsText};
 
 use digits::LONG;
-use faults::Status;
+use faults::Checked;
 use halving::{LISTED, halve};
+use job_read::read_job;
 use jobs::Job;
 use sizes::N;
 use writing::{put_count_line, put_list_line, put_word_line};
 
-// The job's number and n, and how many boxes are listed; all zero beside a fault.
+// The job's number and n, and how many boxes are listed.
 #[derive(Clone, Copy)]
 pub struct Listing {
-    pub status: Status,
     pub number: u64,
     pub n: usize,
     pub boxes: usize,
 }
 
-fn refused(status: Status) -> Listing
-    ensures { result ≡ no_listing status }
-{
-    Listing {
-        status,
-        number: 0,
-        n: 0,
-        boxes: 0,
-    }
-}
-
-fn list_job(j: Job, depth: i64, list: &mut [i64]) -> Listing
+fn list_job(j: Job, depth: i64, list: &mut [i64]) -> Checked<Listing>
     ensures { ListsJob j depth list.old list.new result }
 {
-    let h = halve(j, depth, list);
-    let status = h.status;
-    match status {
-        Status::Done => Listing {
-            status: Status::Done,
-            number: j.head.number,
-            n: j.head.n,
-            boxes: h.boxes,
-        },
-        Status::Refused(fault, line) => refused(Status::Refused(fault, line)),
-    }
+    Ok(Listing {
+        number: j.head.number,
+        n: j.head.n,
+        boxes: halve(j, depth, list)?,
+    })
 }
 
 // Of a job text. Every text, depth and list is taken: a fault is returned and touches no number of the list.
-pub fn list_text(text: &[u8], depth: i64, list: &mut [i64]) -> Listing
+pub fn list_text(text: &[u8], depth: i64, list: &mut [i64]) -> Checked<Listing>
     ensures { ListsText text.now depth list.old list.new result }
 {
-    let read = job_read::read_job(text);
-    let status = read.status;
-    match status {
-        Status::Done => list_job(read.job, depth, list),
-        Status::Refused(fault, line) => refused(Status::Refused(fault, line)),
-    }
+    list_job(read_job(text)?, depth, list)
 }
 
 // The first piece: whose boxes they are, and how many.
@@ -84,9 +62,10 @@ fn put_word(buf: &mut [u8], at: usize, unique: bool) -> usize
     ensures { Wrote buf.old buf.new at result (line (box_text unique)) }
 {
     if unique {
-        return put_word_line(buf, at, b"box=", b"unique");
+        put_word_line(buf, at, b"box=", b"unique")
+    } else {
+        put_word_line(buf, at, b"box=", b"open")
     }
-    put_word_line(buf, at, b"box=", b"open")
 }
 
 // A line: a key, and the n numbers of a list from a place on.

@@ -1,5 +1,5 @@
 -- put_all: the head, and each turn one box more.
-use Prim.Native.Nat.{ℕ, ◌+◌, ◌-◌, ◌*◌, ◌≤◌}
+use Prim.Native.Nat.{ℕ, ◌+◌, ◌*◌, ◌≤◌}
 use mathlib.Core.List.{List}
 use lib.IntN.{ℤ}
 use Rattle.writing.specs.Wrote.{Wrote}
@@ -14,6 +14,3 @@ pub record Inv (l : Listing) (list : List ℤ) (old new : List ℕ) (first at i 
 
 abbrev pub invariant-loop-i : goal.invariant-loop-i
 invariant-loop-i l = Inv l.l l.list l.initial.buf l.buf l.initial.at l.at l.i
-
-abbrev pub decreases-loop-i : goal.decreases-loop-i
-decreases-loop-i l = l.l.boxes - l.i
