@@ -91,7 +91,8 @@ pub fn put_box(buf: &mut [u8], at: usize, n: usize, list: &[i64], i: usize) -> u
     put_ends(buf, last, b"hi=", list, high, n)
 }
 
-// All pieces, as far as there is room: how many bytes they have.
+// All pieces, as far as there is room: how many bytes they have. (Box by box by its number, as `put_box` takes it from
+// whoever writes in pieces.)
 pub fn put_all(buf: &mut [u8], l: Listing, list: &[i64]) -> usize
     requires { Readable l list.now }
     ensures { Wrote buf.old buf.new 0 result (all_lines l list.now) }

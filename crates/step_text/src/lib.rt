@@ -28,6 +28,7 @@ fn hand_over(text: &[u8], len: usize, out: &mut [u8]) -> Checked<usize>
     put_whole(&text[..len], out)
 }
 
+// (This and the next two stay apart: one for all would be handed what fills the buffer, a closure with its contract.)
 fn image_lines(n: usize, k: Ends, out: &mut [u8]) -> Checked<usize>
     requires { EndsFit n k }
     ensures { Leaves (Ok tt) (image_lines n k) out.old out.new result }
