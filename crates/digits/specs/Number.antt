@@ -1,5 +1,6 @@
 -- What a number of a text means. "Numbers: an optional minus, 1 to 9 digits, no leading zero, no minus zero."
-use Rattle.std.specs.Prelude.{ℕ, ◌+◌, ◌-◌, ◌*◌, List, [], ◌∷◌, cond, length, get_or, drop, ltb, eqb, pos, neg_ℤ, ℤ, Option, Some, None}
+use Rattle.std.specs.Prelude.{ℕ, ◌+◌, ◌-◌, ◌*◌, List, [], ◌∷◌, cond, length, get_or, drop, ltb, eqb, pos, neg_ℤ, ℤ}
+use Rattle.std.specs.Prelude.{Option, Some, None}
 use Rattle.digits.specs.Bytes.{digit0, digit9, minus_sign}
 
 abbrev pub digits_max : ℕ
