@@ -1,5 +1,6 @@
 -- "Lists are joined by commas."
-use Rattle.std.specs.Prelude.{ℕ, ◌+◌, ◌*◌, ◌^◌, ◌<◌, List, [], ◌∷◌, ◌++◌, map, true, false, Bool, set, replicate, ℤ, pos, nat_abs, Option, Some, None}
+use Rattle.std.specs.Prelude.{ℕ, ◌+◌, ◌*◌, ◌^◌, ◌<◌, List, [], ◌∷◌, ◌++◌, map, true, false, Bool, set, replicate, ℤ}
+use Rattle.std.specs.Prelude.{pos, nat_abs, Option, Some, None}
 use Rattle.sizes.specs.Sizes.{n_max}
 use Rattle.digits.specs.Bytes.{comma}
 use Rattle.digits.specs.Number.{digits_max, read_number}
