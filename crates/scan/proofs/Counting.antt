@@ -90,7 +90,8 @@ module _ (t key : List ℕ) (from : ℕ) (h : from ≤ length t) where
       room : from + length key ≤ length t
       room = key-long t key from h y
 
-      pub no-count : (from + length key < next → is_at t next line_feed ≡ false) → CountFrom most key t from (Err Uncounted.Bad)
+      pub no-count : (from + length key < next → is_at t next line_feed ≡ false)
+          → CountFrom most key t from (Err Uncounted.Bad)
       unfolding counted_of
       no-count o = rw (number-keyed a y, number-none t (from + length key) room v next n o)
 

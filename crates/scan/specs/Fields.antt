@@ -1,5 +1,6 @@
 -- A number at a place of a text, against the whole fields that could begin there.
-use Rattle.std.specs.Prelude.{ℕ, ◌+◌, ◌≤◌, ◌<◌, ◌≡◌, List, Bool, cond, length, get_or, eqb, ltb, ℤ, pos, Option, Some, None}
+use Rattle.std.specs.Prelude.{ℕ, ◌+◌, ◌≤◌, ◌<◌, ◌≡◌, List, Bool, cond, length, get_or, eqb, ltb, ℤ, pos, Option}
+use Rattle.std.specs.Prelude.{Some, None}
 use Rattle.digits.specs.Bytes.{minus_sign, digit0, digit9}
 use Rattle.digits.specs.Number.{read_magnitude, read_number}
 use Rattle.reading.specs.Places.{part}

@@ -1,5 +1,6 @@
 -- A whole line at its place: "Lines end in one LF, the last too".
-use Rattle.std.specs.Prelude.{ℕ, ◌+◌, ◌≤◌, ◌≡◌, List, [], ◌∷◌, Bool, true, false, cond, length, take, replicate, eqb, ltb, ℤ, pos, Result, Ok, Err, Option, Some, None}
+use Rattle.std.specs.Prelude.{ℕ, ◌+◌, ◌≤◌, ◌≡◌, List, [], ◌∷◌, Bool, true, false, cond, length, take, replicate, eqb}
+use Rattle.std.specs.Prelude.{ltb, ℤ, pos, Result, Ok, Err, Option, Some, None}
 use Rattle.digits.specs.Bytes.{line_feed}
 use Rattle.digits.specs.Number.{read_number}
 use Rattle.text.specs.Counts.{in_count}

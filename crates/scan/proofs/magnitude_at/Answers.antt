@@ -20,14 +20,16 @@ begins : (s : List ℕ) (a b : ℕ) → b ≡ get_or s a 0 → a < length s → 
     → Run s a (b - 48) (a + 1)
 begins s a b e h d n =
     let y = digit-yes b d in
-    rw e (run-start s a h (either 48 b (λ q. omega (arith, e)) (λ q. absurd (n (omega (arith, y.0))))) (omega (arith, y.1, e)))
+    rw e (run-start s a h (either 48 b (λ q. omega (arith, e)) (λ q. absurd (n (omega (arith, y.0)))))
+    (omega (arith, y.1, e)))
 
 pub returns-then-not-is_digit : goal.returns-then-not-is_digit
 returns-then-not-is_digit c =
     let g = c.in_ok-first.ensures.lookup in
     let e = g.4 (omega arith) 0 in
     let n = sym c.is_digit.ensures ∙ c.if-not-is_digit.true in
-    none-at _ _ (record { inside = c.requires; other = λ h p q. digit-no _ n (omega (arith, e, p)) (omega (arith, e, q)) })
+    none-at _ _
+    (record { inside = c.requires; other = λ h p q. digit-no _ n (omega (arith, e, p)) (omega (arith, e, q)) })
 
 pub returns-then-first-eq48 : goal.returns-then-first-eq48
 returns-then-first-eq48 c =

@@ -29,8 +29,11 @@ returns-in_err-digits c =
 pub returns-then-a-from : goal.returns-then-a-from
 returns-then-a-from c =
     let d = c.in_ok-digits.ensures in
-    let fits : SFits w64 c.from-m.result = search rules in
-    (omega arith, rw (to_z-of_z fits, c.from-m.ensures) (plain-number _ _ _ _ _ c.digits_from-a.ensures d.1 c.if-a-from.true))
+    let fits : SFits w64 c.from-m.result = search rules in (
+      omega arith,
+      rw (to_z-of_z fits, c.from-m.ensures)
+          (plain-number _ _ _ _ _ c.digits_from-a.ensures d.1 c.if-a-from.true),
+    )
 
 pub returns-then-m-eq0 : goal.returns-then-m-eq0
 returns-then-m-eq0 c =
