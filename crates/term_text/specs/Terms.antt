@@ -1,6 +1,7 @@
 -- The terms of an `eq` line. Document 01: "A `poly` job has `eq` lines of terms `coefficient:exponents`, one digit for
 -- each unknown".
-use Rattle.std.specs.Prelude.{ℕ, ◌+◌, ◌-◌, List, Bool, true, false, cond, not, ◌&&◌, ◌||◌, length, take, drop, get_or, set, eqb, leb, ℤ, pos, Option, Some, None}
+use Rattle.std.specs.Prelude.{ℕ, ◌+◌, ◌-◌, List, Bool, true, false, cond, not, ◌&&◌, ◌||◌, length, take, drop}
+use Rattle.std.specs.Prelude.{get_or, set, eqb, leb, ℤ, pos, Option, Some, None}
 use Rattle.sizes.specs.Sizes.{n_max, entry_max}
 use Rattle.lists.specs.Loops.{tab}
 use Rattle.jobs.specs.Zero.{zero_equation}
