@@ -1,5 +1,6 @@
 -- An `eq` line and an `n` line at their places.
-use Rattle.std.specs.Prelude.{ℕ, ◌+◌, ◌-◌, ◌≤◌, ◌≡◌, List, Bool, true, false, not, ◌||◌, length, get_or, pos, Result, Ok, Err, Option, Some, None}
+use Rattle.std.specs.Prelude.{ℕ, ◌+◌, ◌-◌, ◌≤◌, ◌≡◌, List, Bool, true, false, not, ◌||◌, length, get_or, pos, Result}
+use Rattle.std.specs.Prelude.{Ok, Err, Option, Some, None}
 use Rattle.sizes.specs.Sizes.{entry_max}
 use Rattle.digits.specs.Bytes.{line_feed, comma, digit0}
 use Rattle.term_checks.specs.Ranges.{is_within}

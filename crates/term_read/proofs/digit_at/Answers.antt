@@ -14,7 +14,8 @@ returns-in_err-b c =
     let p = c.requires in
     let l = c.in_err-b.ensures.lookup in
     rw c.from_residual.ensures
-    (no_digit a.s.now a.key.now _ p.0 p.1 (sym c.key_at.ensures ∙ c.if-not-key_at.false) (λ h. absurd (omega (arith, h, l))))
+    (no_digit a.s.now a.key.now _ p.0 p.1 (sym c.key_at.ensures ∙ c.if-not-key_at.false)
+    (λ h. absurd (omega (arith, h, l))))
 
 pub returns-then-not-is_digit : goal.returns-then-not-is_digit
 returns-then-not-is_digit c =

@@ -41,5 +41,8 @@ returns c =
     let n = c.in_ok-number in
     let fits : SFits w64 n.number.value = search rules in
     let yes = exps-yes _ _ _ c.in_ok-exps.ensures in
-    let at = at-yes c.args.s.now n.number.next colon (sym c.is_at.ensures ∙ c.if-not-is_at.false) in
-    (omega (arith, n.ensures.0), rw (to_z-of_z fits, yes.1) (one-term _ _ _ _ _ n.ensures.1 n.ensures.0 (omega arith) at.1 yes.0))
+    let at = at-yes c.args.s.now n.number.next colon (sym c.is_at.ensures ∙ c.if-not-is_at.false) in (
+      omega (arith, n.ensures.0),
+      rw (to_z-of_z fits, yes.1)
+          (one-term _ _ _ _ _ n.ensures.1 n.ensures.0 (omega arith) at.1 yes.0),
+    )

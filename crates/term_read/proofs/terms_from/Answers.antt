@@ -6,8 +6,11 @@ pub returns-then-is_at : goal.returns-then-is_at
 returns-then-is_at c = rw c.zero_equation.ensures (empty-line _ _ _ (sym c.is_at.ensures ∙ c.if-is_at.true))
 
 pub loop-term-init : goal.loop-term-init
-loop-term-init c =
-    (rw c.zero_equation-q.ensures (begins _ _ _ c.requires.1 (sym c.is_at.ensures ∙ c.if-is_at.false)), c.bounded-few.ensures)
+loop-term-init c = (
+  rw c.zero_equation-q.ensures
+      (begins _ _ _ c.requires.1 (sym c.is_at.ensures ∙ c.if-is_at.false)),
+  c.bounded-few.ensures,
+)
 
 pub returns-in_default : goal.returns-in_default
 returns-in_default c =
