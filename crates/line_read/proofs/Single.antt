@@ -116,7 +116,8 @@ verdict-line t a =
 
     go : (n u s p : Bool)
         → ok_or
-        (or_else (or_else (or_else (at n Verdict.None) (at u Verdict.Unique)) (at s Verdict.Stalled)) (at p Verdict.Spent))
+        (or_else (or_else (or_else (at n Verdict.None) (at u Verdict.Unique)) (at s Verdict.Stalled))
+        (at p Verdict.Spent))
         Fault.Spelling
         ≡ line_from
         (cond n (Ok Verdict.None)

@@ -1,5 +1,5 @@
-// The lines of the texts, each read in one pass from where it begins in the text: what it says, and where the next line
-// begins.
+// The lines of the texts, each read in one pass from where it begins in the text: what it says, and where the next
+// line begins.
 #![tactic(auto)]
 
 pub mod counts;

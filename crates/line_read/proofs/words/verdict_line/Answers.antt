@@ -12,8 +12,10 @@ returns c =
     let a = c.args.from in
     let u : c.or_else.result ≡ or_else c.word.result (word_from (verdict_text Verdict.Unique) Verdict.Unique t a) =
     search rules in
-    let s : c.or_else-2.result ≡ or_else c.or_else.result (word_from (verdict_text Verdict.Stalled) Verdict.Stalled t a) =
+    let s : c.or_else-2.result
+    ≡ or_else c.or_else.result (word_from (verdict_text Verdict.Stalled) Verdict.Stalled t a) =
     search rules in
-    let p : c.or_else-3.result ≡ or_else c.or_else-2.result (word_from (verdict_text Verdict.Spent) Verdict.Spent t a) =
+    let p : c.or_else-3.result
+    ≡ or_else c.or_else-2.result (word_from (verdict_text Verdict.Spent) Verdict.Spent t a) =
     search rules in
     c.ok_or.ensures.value ∙ rw (p, s, u, c.word.ensures) (verdict-line t a)
