@@ -56,7 +56,8 @@ module _ (key t : List ℕ) (a m : ℕ) where
         where
           go : (b : Bool) → Some y ≡ list_at_of b those (line_end t a) → vals ≡ places_of b those m
               → Ok (record { value = vals; next = y.next })
-              ≡ line_from (cond b (refuse (not (eqb those.count n)) Fault.Spelling (Ok (take m those.vals))) misspelled)
+              ≡ line_from
+              (cond b (refuse (not (eqb those.count n)) Fault.Spelling (Ok (take m those.vals))) misspelled)
               (onward t a)
           go true p q =
               let z : y ≡ record { value = those.count; next = onward t a } = cc in
@@ -69,7 +70,8 @@ module _ (key t : List ℕ) (a m : ℕ) where
         where
           go : (b : Bool) → Some y ≡ list_at_of b those (line_end t a)
               → Err Fault.Spelling
-              ≡ line_from (cond b (refuse (not (eqb those.count n)) Fault.Spelling (Ok (take m those.vals))) misspelled)
+              ≡ line_from
+              (cond b (refuse (not (eqb those.count n)) Fault.Spelling (Ok (take m those.vals))) misspelled)
               (onward t a)
           go true p =
               let z : y ≡ record { value = those.count; next = onward t a } = cc in
