@@ -20,8 +20,9 @@ use Rattle.slips.specs.declared.Slip.{Slip}
 use Rattle.slips.specs.declared.RoomSlip.{RoomSlip}
 use Rattle.slips.specs.Slips.{fault_of}
 use Rattle.sentences.specs.Sentences.{line_slip_words, unlike_words, wrong_term_words, misspelled_words}
-use Rattle.sentences.specs.Sentences.{far_words, crossed_words, term_words, room_words, slip_words}
-use Rattle.std.specs.Prelude.{Ok, Err}
+use Rattle.sentences.specs.Sentences.{beyond_words, far_words, crossed_words, term_words, room_words}
+use Rattle.sentences.specs.Sentences.{words_of, slip_words}
+use Rattle.std.specs.Prelude.{Option, Some, None, Ok, Err}
 
 zero_one : ◌≡◌ {A = ℕ} 0 1 → ⊥
 zero_one e = omega arith
@@ -36,20 +37,11 @@ some (b ∷ bs) e = omega arith
 
 line-some : (line : ℕ) (slip : LineSlip) → begun (line_slip_words line slip) ≡ true
 unfolding line_slip_words
-line-some line LineSlip.Extra = refl
-line-some line LineSlip.NoFeed = refl
-line-some line LineSlip.Return = refl
-line-some line LineSlip.Blank = refl
-line-some line LineSlip.Pin = refl
+line-some line slip = refl
 
 unlike-some : (line : ℕ) (slip : Unlike) (form : Form) → begun (unlike_words line slip form) ≡ true
 unfolding unlike_words
-unlike-some line Unlike.Gone form = refl
-unlike-some line Unlike.Hollow form = refl
-unlike-some line Unlike.Capital form = refl
-unlike-some line Unlike.NoKey form = refl
-unlike-some line Unlike.Word form = refl
-unlike-some line Unlike.Digit form = refl
+unlike-some line slip form = refl
 
 wrong-some : (n k : ℕ) (wrong : WrongTerm) (form : Form) → begun (wrong_term_words n k wrong form) ≡ true
 unfolding wrong_term_words
@@ -71,28 +63,28 @@ misspelled-some s (Misspelling.Number (Field.Coefficient k) wrong) = refl
 misspelled-some s (Misspelling.Count expected found) = refl
 misspelled-some s (Misspelling.Term k wrong) = wrong-some s.n k wrong s.form
 
-far_some : (far : Far) → begun (far_words far) ≡ true
-unfolding far_words
-far_some (Far.Job v) = refl
-far_some (Far.Visit v) = refl
-far_some (Far.End k v) = refl
-far_some (Far.Entry k v) = refl
-far_some (Far.Coefficient k v) = refl
-far_some Far.Unplaced = refl
+far_some : (far : Option Far) → begun (far_words far) ≡ true
+unfolding beyond_words far_words
+far_some (Some (Far.Job v)) = refl
+far_some (Some (Far.Visit v)) = refl
+far_some (Some (Far.End k v)) = refl
+far_some (Some (Far.Entry k v)) = refl
+far_some (Some (Far.Coefficient k v)) = refl
+far_some None = refl
 
-crossed-some : (at : Crossing) → begun (crossed_words at) ≡ true
+crossed-some : (at : Option Crossing) → begun (crossed_words at) ≡ true
 unfolding crossed_words
-crossed-some (Crossing.At i lo hi) = refl
-crossed-some Crossing.Unplaced = refl
+crossed-some (Some c) = refl
+crossed-some None = refl
 
-term-some : (slip : TermSlip) → begun (term_words slip) ≡ true
+term-some : (slip : Option TermSlip) → begun (term_words slip) ≡ true
 unfolding term_words
-term-some (TermSlip.Many count) = refl
-term-some (TermSlip.Zero k) = refl
-term-some (TermSlip.Degree k d) = refl
-term-some (TermSlip.Same j k) = refl
-term-some (TermSlip.Order j k) = refl
-term-some TermSlip.Unplaced = refl
+term-some (Some (TermSlip.Many count)) = refl
+term-some (Some (TermSlip.Zero k)) = refl
+term-some (Some (TermSlip.Degree k d)) = refl
+term-some (Some (TermSlip.Same j k)) = refl
+term-some (Some (TermSlip.Order j k)) = refl
+term-some None = refl
 
 room-some : (slip : RoomSlip) → begun (room_words slip) ≡ true
 unfolding room_words
@@ -101,33 +93,25 @@ room-some RoomSlip.Visits = refl
 room-some RoomSlip.NotOpen = refl
 room-some RoomSlip.Table = refl
 
-slip-begun : (slip : Slip) {f : Fault} → fault_of slip ≡ Err f → begun (slip_words slip) ≡ true
-unfolding slip_words
-slip-begun Slip.Nothing e = absurd (zero_one (cc))
-slip-begun Slip.Long e = refl
-slip-begun (Slip.Spelled s) e = misspelled-some s s.slip
-slip-begun (Slip.Unknowns n) e = refl
-slip-begun (Slip.Beyond far) e = far_some far
-slip-begun (Slip.Crossed at) e = crossed-some at
-slip-begun (Slip.Terms slip) e = term-some slip
-slip-begun Slip.Short e = refl
-slip-begun (Slip.Steps v) e = refl
-slip-begun (Slip.Pin v slip) e = refl
-slip-begun (Slip.Room slip) e = room-some slip
+slip-begun : (slip : Slip) → begun (words_of slip) ≡ true
+unfolding words_of
+slip-begun Slip.Long = refl
+slip-begun (Slip.Spelled s) = misspelled-some s s.slip
+slip-begun (Slip.Unknowns n) = refl
+slip-begun (Slip.Beyond far) = far_some far
+slip-begun (Slip.Crossed at) = crossed-some at
+slip-begun (Slip.Terms slip) = term-some slip
+slip-begun Slip.Short = refl
+slip-begun (Slip.Steps v) = refl
+slip-begun (Slip.Pin v slip) = refl
+slip-begun (Slip.Room slip) = room-some slip
 
-pub slip-some : (slip : Slip) {f : Fault} → fault_of slip ≡ Err f → 0 < length (slip_words slip)
-slip-some slip e = some (slip_words slip) (slip-begun slip e)
-
-pub slip-none : (slip : Slip) → fault_of slip ≡ Ok tt → slip_words slip ≡ []
+pub slip-some : (slip : Option Slip) {f : Fault} → fault_of slip ≡ Err f → 0 < length (slip_words slip)
 unfolding slip_words
-slip-none Slip.Nothing e = refl
-slip-none Slip.Long e = absurd (zero_one (cc))
-slip-none (Slip.Spelled s) e = absurd (zero_one (cc))
-slip-none (Slip.Unknowns n) e = absurd (zero_one (cc))
-slip-none (Slip.Beyond far) e = absurd (zero_one (cc))
-slip-none (Slip.Crossed at) e = absurd (zero_one (cc))
-slip-none (Slip.Terms slip) e = absurd (zero_one (cc))
-slip-none Slip.Short e = absurd (zero_one (cc))
-slip-none (Slip.Steps v) e = absurd (zero_one (cc))
-slip-none (Slip.Pin v slip) e = absurd (zero_one (cc))
-slip-none (Slip.Room slip) e = absurd (zero_one (cc))
+slip-some None e = absurd (zero_one (cc))
+slip-some (Some slip) e = some (words_of slip) (slip-begun slip)
+
+pub slip-none : (slip : Option Slip) → fault_of slip ≡ Ok tt → slip_words slip ≡ []
+unfolding slip_words
+slip-none None e = refl
+slip-none (Some slip) e = absurd (zero_one (cc))

@@ -1,5 +1,5 @@
 -- The sentence of each slip: what stands there and what is expected.
-use Rattle.std.specs.Prelude.{ℕ, ◌≤◌, ◌≡◌, List, [], ◌++◌, cond, eqb, ℤ}
+use Rattle.std.specs.Prelude.{ℕ, ◌≤◌, ◌≡◌, List, [], ◌++◌, cond, eqb, ℤ, Option, Some, None}
 use Rattle.sizes.specs.Sizes.{n_max, terms_max, text_max, steps_max, number_max, visit_max, end_max, entry_max}
 use Rattle.sizes.specs.Sizes.{degree_max}
 use Rattle.faults.specs.Checked.{Finding}
@@ -19,9 +19,10 @@ use Rattle.slips.specs.declared.TermSlip.{TermSlip}
 use Rattle.slips.specs.declared.PinSlip.{PinSlip}
 use Rattle.slips.specs.declared.RoomSlip.{RoomSlip}
 use Rattle.slips.specs.declared.Slip.{Slip}
+use Rattle.slips.specs.Keys.{key_words}
 use Rattle.slips.specs.Slips.{fault_of}
 use Rattle.phrases.specs.Ascii.{ascii}
-use Rattle.phrases.specs.Words.{value_words, key_words, expected_words, field_words, wrong_words, pin_range_words}
+use Rattle.phrases.specs.Words.{value_words, expected_words, field_words, wrong_words, pin_range_words}
 use Rattle.phrases.specs.Words.{count_words, counted, some_words}
 use Rattle.phrases.specs.Says.{sentence_max}
 
@@ -68,21 +69,26 @@ empty_words form = ascii "the text is empty" ++ expected_words form
 abbrev pub mark_words : List ℕ
 mark_words = ascii "the text begins with a byte order mark: save it as plain text without one"
 
+abbrev pub line_slip_said : LineSlip → List ℕ
+line_slip_said LineSlip.Extra = ascii " is one too many: the line before it is the last"
+line_slip_said LineSlip.NoFeed = ascii " has no line feed: press Enter at its end"
+line_slip_said LineSlip.Return = ascii " has a carriage return: save with Unix line ends"
+line_slip_said LineSlip.Blank = ascii " has a blank or a tab: write it with none"
+line_slip_said LineSlip.Pin = ascii " begins with pin=, lo= is expected: only an eigen job has a pin line"
+
 unfoldable pub line_slip_words : ℕ → LineSlip → List ℕ
-line_slip_words line LineSlip.Extra = line_words line (ascii " is one too many: the line before it is the last")
-line_slip_words line LineSlip.NoFeed = line_words line (ascii " has no line feed: press Enter at its end")
-line_slip_words line LineSlip.Return = line_words line (ascii " has a carriage return: save with Unix line ends")
-line_slip_words line LineSlip.Blank = line_words line (ascii " has a blank or a tab: write it with none")
-line_slip_words line LineSlip.Pin =
-    line_words line (ascii " begins with pin=, lo= is expected: only an eigen job has a pin line")
+line_slip_words line slip = line_words line (line_slip_said slip)
+
+abbrev pub unlike_said : Unlike → List ℕ
+unlike_said Unlike.Gone = ascii " is missing"
+unlike_said Unlike.Hollow = ascii " is empty"
+unlike_said Unlike.Capital = ascii " has a capital letter: all are small"
+unlike_said Unlike.NoKey = ascii " does not begin with its key"
+unlike_said Unlike.Word = ascii " has another word"
+unlike_said Unlike.Digit = ascii " has not just one digit"
 
 unfoldable pub unlike_words : ℕ → Unlike → Form → List ℕ
-unlike_words line Unlike.Gone form = line_not line (ascii " is missing") form
-unlike_words line Unlike.Hollow form = line_not line (ascii " is empty") form
-unlike_words line Unlike.Capital form = line_not line (ascii " has a capital letter: all are small") form
-unlike_words line Unlike.NoKey form = line_not line (ascii " does not begin with its key") form
-unlike_words line Unlike.Word form = line_not line (ascii " has another word") form
-unlike_words line Unlike.Digit form = line_not line (ascii " has not just one digit") form
+unlike_words line slip form = line_not line (unlike_said slip) form
 
 unfoldable pub wrong_term_words : ℕ → ℕ → WrongTerm → Form → List ℕ
 wrong_term_words n k WrongTerm.NoExponents form = term_not k (ascii " has no exponents") form
@@ -114,26 +120,33 @@ far_not field k v words m = counted field k (ascii " is ") ++ value_words v ++ r
 abbrev pub count_far_words : List ℕ → ℤ → ℕ → List ℕ
 count_far_words words v most = words ++ value_words v ++ counted (ascii ": it lies from 0 to ") most []
 
-unfoldable pub far_words : Far → List ℕ
-far_words (Far.Job v) = count_far_words (ascii "the job's number is ") v number_max
-far_words (Far.Visit v) = count_far_words (ascii "the visit's number is ") v visit_max
-far_words (Far.End k v) = far_not (ascii "number ") k v (ascii ": ends") end_max
-far_words (Far.Entry k v) = far_not (ascii "number ") k v (ascii ": entries") entry_max
-far_words (Far.Coefficient k v) = far_not (ascii "the coefficient of term ") k v (ascii ": coefficients") entry_max
-far_words Far.Unplaced = range_words (ascii "coefficients and entries") entry_max
+unfoldable pub beyond_words : Far → List ℕ
+beyond_words (Far.Job v) = count_far_words (ascii "the job's number is ") v number_max
+beyond_words (Far.Visit v) = count_far_words (ascii "the visit's number is ") v visit_max
+beyond_words (Far.End k v) = far_not (ascii "number ") k v (ascii ": ends") end_max
+beyond_words (Far.Entry k v) = far_not (ascii "number ") k v (ascii ": entries") entry_max
+beyond_words (Far.Coefficient k v) =
+    far_not (ascii "the coefficient of term ") k v (ascii ": coefficients") entry_max
 
-abbrev pub crossing_words : ℕ → ℤ → ℤ → List ℕ
-crossing_words i lo hi =
-    counted (ascii "unknown ") i (ascii ": the high end ") ++ value_words hi
-    ++ ascii " is below the low end " ++ value_words lo
+unfoldable pub far_words : Option Far → List ℕ
+far_words (Some far) = beyond_words far
+far_words None = range_words (ascii "coefficients and entries") entry_max
 
-unfoldable pub crossed_words : Crossing → List ℕ
-crossed_words (Crossing.At i lo hi) = crossing_words i lo hi
-crossed_words Crossing.Unplaced = ascii "no high end may be below its low end"
+abbrev pub crossing_words : Crossing → List ℕ
+crossing_words c =
+    counted (ascii "unknown ") c.unknown (ascii ": the high end ") ++ value_words c.high
+    ++ ascii " is below the low end " ++ value_words c.low
+
+unfoldable pub crossed_words : Option Crossing → List ℕ
+crossed_words (Some c) = crossing_words c
+crossed_words None = ascii "no high end may be below its low end"
 
 abbrev pub many_words : ℕ → List ℕ
 many_words count =
     counted (ascii "an equation has at most ") terms_max (ascii " terms, this one has ") ++ count_words count
+
+abbrev pub zero_words : ℕ → List ℕ
+zero_words k = counted (ascii "the coefficient of term ") k (ascii " is 0: leave the term out")
 
 abbrev pub degree_words : ℕ → ℕ → List ℕ
 degree_words k d =
@@ -149,13 +162,13 @@ order_words j k =
     counted (ascii "term ") k (ascii " must stand before term ")
     ++ counted [] j (ascii ": terms stand in falling order of their exponents")
 
-unfoldable pub term_words : TermSlip → List ℕ
-term_words (TermSlip.Many count) = many_words count
-term_words (TermSlip.Zero k) = counted (ascii "the coefficient of term ") k (ascii " is 0: leave the term out")
-term_words (TermSlip.Degree k d) = degree_words k d
-term_words (TermSlip.Same j k) = same_words j k
-term_words (TermSlip.Order j k) = order_words j k
-term_words TermSlip.Unplaced = ascii "terms stand in strictly falling order of their exponents"
+unfoldable pub term_words : Option TermSlip → List ℕ
+term_words (Some (TermSlip.Many count)) = many_words count
+term_words (Some (TermSlip.Zero k)) = zero_words k
+term_words (Some (TermSlip.Degree k d)) = degree_words k d
+term_words (Some (TermSlip.Same j k)) = same_words j k
+term_words (Some (TermSlip.Order j k)) = order_words j k
+term_words None = ascii "terms stand in strictly falling order of their exponents"
 
 -- ---- every slip
 
@@ -175,32 +188,42 @@ room_words RoomSlip.Visits = ascii "every visit number is handed out: clear the 
 room_words RoomSlip.NotOpen = ascii "this slot does not hold this visit: it was closed, or never opened"
 room_words RoomSlip.Table = ascii "the bytes are no table of rooms: too few, or not only changed by its calls"
 
-unfoldable pub slip_words : Slip → List ℕ
-slip_words Slip.Nothing = []
-slip_words Slip.Long = counted (ascii "a text has at most ") text_max (ascii " bytes, this one has more")
-slip_words (Slip.Spelled s) = misspelled_words s s.slip
-slip_words (Slip.Unknowns n) = unknowns_words n
-slip_words (Slip.Beyond far) = far_words far
-slip_words (Slip.Crossed at) = crossed_words at
-slip_words (Slip.Terms slip) = term_words slip
-slip_words Slip.Short = ascii "the answer is longer than its buffer"
-slip_words (Slip.Steps v) = count_far_words (ascii "steps is ") v steps_max
-slip_words (Slip.Pin v slip) = pinned_words v slip
-slip_words (Slip.Room slip) = room_words slip
+abbrev pub long_words : List ℕ
+long_words = counted (ascii "a text has at most ") text_max (ascii " bytes, this one has more")
 
--- the sentence of a slip that is the fault which the reader found stands from the start of the buffer on, as far as
+abbrev pub short_words : List ℕ
+short_words = ascii "the answer is longer than its buffer"
+
+unfoldable pub words_of : Slip → List ℕ
+words_of Slip.Long = long_words
+words_of (Slip.Spelled s) = misspelled_words s s.slip
+words_of (Slip.Unknowns n) = unknowns_words n
+words_of (Slip.Beyond far) = far_words far
+words_of (Slip.Crossed at) = crossed_words at
+words_of (Slip.Terms slip) = term_words slip
+words_of Slip.Short = short_words
+words_of (Slip.Steps v) = count_far_words (ascii "steps is ") v steps_max
+words_of (Slip.Pin v slip) = pinned_words v slip
+words_of (Slip.Room slip) = room_words slip
+
+-- no word where there is no slip
+unfoldable pub slip_words : Option Slip → List ℕ
+slip_words None = []
+slip_words (Some slip) = words_of slip
+
 -- the sentence of a fault of the table, by its number: 7 is the only other one that a call on it has
 unfoldable pub table_words : ℕ → List ℕ
 table_words k =
-    cond (eqb k 7) (slip_words Slip.Short)
+    cond (eqb k 7) short_words
     (cond (eqb k 13) (room_words RoomSlip.Full)
     (cond (eqb k 14) (room_words RoomSlip.Visits)
     (cond (eqb k 15) (room_words RoomSlip.NotOpen)
     (cond (eqb k 16) (room_words RoomSlip.Table) []))))
 
+-- the sentence of a slip that is the fault which the reader found stands from the start of the buffer on, as far as
 -- there is room, and every other byte is the old one; r is its length
 pub record Explains (found : Finding) (old new : List ℕ) (r : ℕ) : Type 0 where
-  pub slip : Slip
+  pub slip : Option Slip
   pub fault : fault_of slip ≡ found
   pub words : Wrote old new 0 r (slip_words slip)
   pub short : r ≤ sentence_max

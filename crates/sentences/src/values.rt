@@ -1,22 +1,20 @@
 // The sentences of faults 4, 5 and 6.
 ghost use Rattle.std.specs.Prelude.{◌+◌, ◌≤◌, length};
-ghost use Rattle.slips.specs.declared.TermSlip.{TermSlip};
 ghost use Rattle.phrases.specs.Says.{Says, sentence_max, words_most, range_most};
-ghost use Rattle.sentences.specs.Sentences.{range_words, far_not, far_words, crossing_words, crossed_words};
-ghost use Rattle.sentences.specs.Sentences.{count_far_words, many_words, degree_words, same_words};
+ghost use Rattle.sentences.specs.Sentences.{range_words, far_not, beyond_words, far_words, crossing_words};
+ghost use Rattle.sentences.specs.Sentences.{crossed_words, count_far_words, many_words, zero_words, degree_words, same_words};
 ghost use Rattle.sentences.specs.Sentences.{order_words, term_words};
 
-use phrases::{put_count, put_value, tell, tell_first};
+use phrases::{put_count, put_value, say, tell, tell_first};
 use sizes::{DEGREE, END, ENTRY, NUMBER, TERMS, VISIT};
 use slips::{Crossing, Far, TermSlip};
-use writing::put_bytes;
 
 // From -m to m.
 fn put_range(out: &mut [u8], at: usize, words: &[u8], m: u64) -> usize
     requires { (at + range_most ≤ sentence_max) × (length words.now ≤ words_most) }
     ensures { Says range_most out.old out.new at result (range_words words.now m) }
 {
-    let a = put_bytes(out, at, words);
+    let a = say(out, at, words);
     let b = tell(out, a, b" lie from -", m, b" to ");
     put_count(out, b, m)
 }
@@ -37,13 +35,13 @@ pub fn put_count_far(out: &mut [u8], words: &[u8], v: i64, most: u64) -> usize
     ensures { Says sentence_max out.old out.new 0 result
         (count_far_words words.now v most) }
 {
-    let a = put_bytes(out, 0, words);
+    let a = say(out, 0, words);
     let b = put_value(out, a, v);
     tell(out, b, b": it lies from 0 to ", most, b"")
 }
 
-pub fn put_far(out: &mut [u8], far: Far) -> usize
-    ensures { Says sentence_max out.old out.new 0 result (far_words far) }
+fn put_beyond(out: &mut [u8], far: Far) -> usize
+    ensures { Says sentence_max out.old out.new 0 result (beyond_words far) }
 {
     match far {
         Far::Job(v) => put_count_far(out, b"the job's number is ", v, NUMBER),
@@ -58,25 +56,35 @@ pub fn put_far(out: &mut [u8], far: Far) -> usize
             b": coefficients",
             ENTRY as u64,
         ),
-        Far::Unplaced => put_range(out, 0, b"coefficients and entries", ENTRY as u64),
     }
 }
 
-fn put_crossing(out: &mut [u8], i: usize, lo: i64, hi: i64) -> usize
-    ensures { Says sentence_max out.old out.new 0 result (crossing_words i lo hi) }
+#[tactic(auto, using(phrases::proofs::Says::says_as), unfolding(crate::specs::Sentences::far_words))]
+pub fn put_far(out: &mut [u8], far: Option<Far>) -> usize
+    ensures { Says sentence_max out.old out.new 0 result (far_words far) }
 {
-    let a = tell(out, 0, b"unknown ", i as u64, b": the high end ");
-    let b = put_value(out, a, hi);
-    let c = put_bytes(out, b, b" is below the low end ");
-    put_value(out, c, lo)
+    match far {
+        Some(far) => put_beyond(out, far),
+        None => put_range(out, 0, b"coefficients and entries", ENTRY as u64),
+    }
 }
 
-pub fn put_crossed(out: &mut [u8], at: Crossing) -> usize
+fn put_crossing(out: &mut [u8], at: Crossing) -> usize
+    ensures { Says sentence_max out.old out.new 0 result (crossing_words at) }
+{
+    let a = tell(out, 0, b"unknown ", at.unknown as u64, b": the high end ");
+    let b = put_value(out, a, at.high);
+    let c = say(out, b, b" is below the low end ");
+    put_value(out, c, at.low)
+}
+
+#[tactic(auto, using(phrases::proofs::Says::says_as), unfolding(crate::specs::Sentences::crossed_words))]
+pub fn put_crossed(out: &mut [u8], at: Option<Crossing>) -> usize
     ensures { Says sentence_max out.old out.new 0 result (crossed_words at) }
 {
     match at {
-        Crossing::At(i, lo, hi) => put_crossing(out, i, lo, hi),
-        Crossing::Unplaced => put_bytes(out, 0, b"no high end may be below its low end"),
+        Some(c) => put_crossing(out, c),
+        None => say(out, 0, b"no high end may be below its low end"),
     }
 }
 
@@ -94,7 +102,7 @@ fn put_many(out: &mut [u8], count: usize) -> usize
 }
 
 fn put_zero(out: &mut [u8], k: usize) -> usize
-    ensures { Says sentence_max out.old out.new 0 result (term_words (TermSlip.Zero k)) }
+    ensures { Says sentence_max out.old out.new 0 result (zero_words k) }
 {
     tell(
         out,
@@ -137,16 +145,17 @@ fn put_order(out: &mut [u8], j: usize, k: usize) -> usize
     )
 }
 
-pub fn put_terms(out: &mut [u8], slip: TermSlip) -> usize
+#[tactic(auto, using(phrases::proofs::Says::says_as), unfolding(crate::specs::Sentences::term_words))]
+pub fn put_terms(out: &mut [u8], slip: Option<TermSlip>) -> usize
     ensures { Says sentence_max out.old out.new 0 result (term_words slip) }
 {
     match slip {
-        TermSlip::Many(count) => put_many(out, count),
-        TermSlip::Zero(k) => put_zero(out, k),
-        TermSlip::Degree(k, d) => put_degree(out, k, d),
-        TermSlip::Same(j, k) => put_same(out, j, k),
-        TermSlip::Order(j, k) => put_order(out, j, k),
-        TermSlip::Unplaced => put_bytes(
+        Some(TermSlip::Many(count)) => put_many(out, count),
+        Some(TermSlip::Zero(k)) => put_zero(out, k),
+        Some(TermSlip::Degree(k, d)) => put_degree(out, k, d),
+        Some(TermSlip::Same(j, k)) => put_same(out, j, k),
+        Some(TermSlip::Order(j, k)) => put_order(out, j, k),
+        None => say(
             out,
             0,
             b"terms stand in strictly falling order of their exponents",

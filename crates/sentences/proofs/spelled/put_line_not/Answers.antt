@@ -1,8 +1,0 @@
--- `sentences::spelled::put_line_not` meets its contract.
-use native.Mathlib.Omega.{arith}
-use Rattle.phrases.proofs.Says.{says-most, says_then}
-use Rattle.sentences.proofs.spelled.put_line_not.Goals as goal
-
-pub returns : goal.returns
-returns c =
-    says-most _ (omega arith) (says_then c.tell-a.ensures c.put_expected.ensures)
