@@ -7,6 +7,7 @@ pub mod screens;
 pub mod steps;
 
 ghost use Rattle.std.specs.Prelude.{◌≡◌};
+ghost use Rattle.faults.specs.Checked.{status_of};
 ghost use Rattle.job_form.specs.JobForm.{read_job};
 ghost use Rattle.result_form.specs.ResultForm.{read_result};
 ghost use Rattle.desk.specs.Desk.{job_status, job_text, result_status, result_text, solve_status, solve_text};
@@ -14,16 +15,14 @@ ghost use Rattle.c_answers.specs.Numbers.{checked, Gives};
 ghost use Rattle.slips.specs.Slips.{found_in};
 ghost use Rattle.sentences.specs.Sentences.{Explains};
 
-use c_answers::{Answer, numbers};
-use faults::Written;
+use c_answers::{Answer, checked_numbers, numbers};
 
 #[unsafe(no_mangle)]
 pub extern "C" fn floodrafter_solve(text: &[u8], out: &mut [u8]) -> Answer
     ensures { Gives (solve_status text.now) (solve_text text.now)
         out.old out.new result }
 {
-    let w = desk::solve(text, out);
-    numbers(w)
+    numbers(desk::solve(text, out))
 }
 
 #[unsafe(no_mangle)]
@@ -31,8 +30,7 @@ pub extern "C" fn floodrafter_rewrite_job(text: &[u8], out: &mut [u8]) -> Answer
     ensures { Gives (job_status text.now) (job_text text.now)
         out.old out.new result }
 {
-    let w = desk::rewrite_job(text, out);
-    numbers(w)
+    numbers(desk::rewrite_job(text, out))
 }
 
 #[unsafe(no_mangle)]
@@ -40,37 +38,33 @@ pub extern "C" fn floodrafter_rewrite_result(text: &[u8], out: &mut [u8]) -> Ans
     ensures { Gives (result_status text.now) (result_text text.now)
         out.old out.new result }
 {
-    let w = desk::rewrite_result(text, out);
-    numbers(w)
+    numbers(desk::rewrite_result(text, out))
 }
 
 #[unsafe(no_mangle)]
 pub extern "C" fn floodrafter_check_job(text: &[u8]) -> Answer
-    ensures { result ≡ checked status_of (read_job text.now) }
+    ensures { result ≡ checked (status_of (read_job text.now)) }
 {
-    let status = job_read::read_status(text);
-    numbers(Written { status, len: 0 })
+    checked_numbers(job_read::read_status(text))
 }
 
 #[unsafe(no_mangle)]
 pub extern "C" fn floodrafter_check_result(text: &[u8]) -> Answer
-    ensures { result ≡ checked status_of (read_result text.now) }
+    ensures { result ≡ checked (status_of (read_result text.now)) }
 {
-    let read = result_read::read_result(text);
-    let status = read.status;
-    numbers(Written { status, len: 0 })
+    checked_numbers(result_read::read_result(text).map(|_| ()))
 }
 
 #[unsafe(no_mangle)]
 pub extern "C" fn floodrafter_explain_job(text: &[u8], out: &mut [u8]) -> usize
-    ensures { Explains (found_in status_of (read_job text.now)) out.old out.new result }
+    ensures { Explains (found_in (status_of (read_job text.now))) out.old out.new result }
 {
     sentences::explain_job(text, out)
 }
 
 #[unsafe(no_mangle)]
 pub extern "C" fn floodrafter_explain_result(text: &[u8], out: &mut [u8]) -> usize
-    ensures { Explains (found_in status_of (read_result text.now))
+    ensures { Explains (found_in (status_of (read_result text.now)))
         out.old out.new result }
 {
     sentences::explain_result(text, out)

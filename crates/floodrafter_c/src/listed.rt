@@ -1,7 +1,6 @@
 // All closing positions, for C: the list of numbers is lent.
 ghost use Rattle.floodrafter_c.specs.Lists.{GivesList};
 
-use faults::{Status, fault_number};
 use listing::list_text;
 
 // `floodrafter_listing` of the header.
@@ -18,20 +17,18 @@ pub struct Boxes {
 pub extern "C" fn floodrafter_halve(text: &[u8], depth: i64, list: &mut [i64]) -> Boxes
     ensures { GivesList text.now depth list.old list.new result }
 {
-    let l = list_text(text, depth, list);
-    let status = l.status;
-    match status {
-        Status::Done => Boxes {
+    match list_text(text, depth, list) {
+        Ok(l) => Boxes {
             fault: 0,
             line: 0,
             n: l.n,
             boxes: l.boxes,
         },
-        Status::Refused(f, line) => Boxes {
-            fault: fault_number(f),
-            line,
-            n: l.n,
-            boxes: l.boxes,
+        Err(r) => Boxes {
+            fault: u64::from(r.fault),
+            line: r.line,
+            n: 0,
+            boxes: 0,
         },
     }
 }

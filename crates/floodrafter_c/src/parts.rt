@@ -5,8 +5,7 @@ ghost use Rattle.job_parts.specs.Parts.{begun, part_taken, end_of};
 ghost use Rattle.c_answers.specs.Numbers.{checked, Gives};
 ghost use Rattle.floodrafter_c.specs.Parts.{numbers_taken};
 
-use c_answers::{Answer, numbers};
-use faults::{Status, Written, fault_number};
+use c_answers::{Answer, checked_numbers, numbers};
 use job_parts::Parts;
 use parts_end::{end_job, end_solve, end_status};
 
@@ -31,19 +30,11 @@ pub extern "C" fn floodrafter_take(parts: Parts, part: &[u8]) -> Taken
     ensures { result ≡ numbers_taken (part_taken parts part.now) }
 {
     let taken = job_parts::take(parts, part);
-    let status = taken.status;
-    let next = taken.parts;
-    match status {
-        Status::Done => Taken {
-            fault: 0,
-            line: 0,
-            parts: next,
-        },
-        Status::Refused(f, line) => Taken {
-            fault: fault_number(f),
-            line,
-            parts: next,
-        },
+    let told = checked_numbers(taken.status);
+    Taken {
+        fault: told.fault,
+        line: told.line,
+        parts: taken.parts,
     }
 }
 
@@ -51,8 +42,7 @@ pub extern "C" fn floodrafter_take(parts: Parts, part: &[u8]) -> Taken
 pub extern "C" fn floodrafter_end_check(parts: Parts) -> Answer
     ensures { result ≡ checked (written_status (end_of parts)) }
 {
-    let status = end_status(parts);
-    numbers(Written { status, len: 0 })
+    checked_numbers(end_status(parts))
 }
 
 #[unsafe(no_mangle)]
@@ -60,8 +50,7 @@ pub extern "C" fn floodrafter_end_job(parts: Parts, out: &mut [u8]) -> Answer
     ensures { Gives (written_status (end_of parts)) (written_text (end_of parts)) out.old
         out.new result }
 {
-    let w = end_job(parts, out);
-    numbers(w)
+    numbers(end_job(parts, out))
 }
 
 #[unsafe(no_mangle)]
@@ -69,6 +58,5 @@ pub extern "C" fn floodrafter_end_solve(parts: Parts, out: &mut [u8]) -> Answer
     ensures { Gives (solved_status (end_of parts)) (solved_text (end_of parts)) out.old
         out.new result }
 {
-    let w = end_solve(parts, out);
-    numbers(w)
+    numbers(end_solve(parts, out))
 }

@@ -4,13 +4,13 @@ ghost use Rattle.result_form.specs.ResultShows.{show_result};
 ghost use Rattle.c_answers.specs.Numbers.{checked, Gives};
 ghost use Rattle.phrases.specs.Says.{Says, sentence_max};
 ghost use Rattle.sentences.specs.Sentences.{table_words};
-ghost use Rattle.room_form.specs.Table.{room_at};
-ghost use Rattle.room_form.specs.Calls.{clear_status, cleared, lowest_free, next_visit, open_status, opened};
+ghost use Rattle.room_form.specs.Table.{room_at, visit_in};
+ghost use Rattle.room_form.specs.Calls.{clear_status, cleared, lowest_free, next_visit, open_status, open_answer, opened};
 ghost use Rattle.room_form.specs.Calls.{held_status, after_step, stepped, closed};
 ghost use Rattle.floodrafter_c.specs.Screens.{opened_by};
 
-use c_answers::{Answer, numbers};
-use faults::{Status, Written, fault_number};
+use c_answers::{Answer, checked_numbers, numbers};
+use faults::Checked;
 
 // What opening answers: beside a fault slot and visit are zero.
 #[repr(C)]
@@ -22,19 +22,19 @@ pub struct Opened {
     pub visit: u64,
 }
 
-fn told(status: Status, slot: usize, visit: u64) -> Opened
-    ensures { result ≡ opened_by status slot visit }
+fn told(opened: Checked<room_form::Opened>) -> Opened
+    ensures { result ≡ opened_by opened }
 {
-    match status {
-        Status::Done => Opened {
+    match opened {
+        Ok(o) => Opened {
             fault: 0,
             line: 0,
-            slot: slot as u64,
-            visit,
+            slot: o.slot as u64,
+            visit: o.visit,
         },
-        Status::Refused(f, line) => Opened {
-            fault: fault_number(f),
-            line,
+        Err(r) => Opened {
+            fault: u64::from(r.fault),
+            line: r.line,
             slot: 0,
             visit: 0,
         },
@@ -46,19 +46,16 @@ pub extern "C" fn floodrafter_room_clear(table: &mut [u8]) -> Answer
     ensures answer { result ≡ checked (clear_status table.old) }
     ensures table { table.new ≡ cleared table.old }
 {
-    let status = rooms::clear(table);
-    numbers(Written { status, len: 0 })
+    checked_numbers(rooms::clear(table))
 }
 
 #[unsafe(no_mangle)]
 pub extern "C" fn floodrafter_room_open(table: &mut [u8], text: &[u8]) -> Opened
-    ensures answer { result ≡ opened_by (open_status table.old text.now)
-        (lowest_free table.old) (next_visit table.old) }
+    ensures answer { result ≡ opened_by (open_answer (open_status table.old text.now)
+        (lowest_free table.old) (next_visit table.old)) }
     ensures table { table.new ≡ opened table.old text.now }
 {
-    let o = rooms::open(table, text);
-    let status = o.status;
-    told(status, o.slot, o.visit)
+    told(rooms::open(table, text))
 }
 
 #[unsafe(no_mangle)]
@@ -73,8 +70,7 @@ pub extern "C" fn floodrafter_room_step(
     ensures table { table.new
         ≡ stepped table.old slot visit (length out.old) }
 {
-    let w = rooms::step(table, slot, visit, out);
-    numbers(w)
+    numbers(rooms::step(table, slot, visit, out))
 }
 
 #[unsafe(no_mangle)]
@@ -85,10 +81,9 @@ pub extern "C" fn floodrafter_room_reading(
     out: &mut [u8],
 ) -> Answer
     ensures { Gives (held_status table.now slot visit)
-        (show_result (room_at table.now slot).reading) out.old out.new result }
+        (show_result (visit_in (room_at table.now slot)).reading) out.old out.new result }
 {
-    let w = rooms::reading(table, slot, visit, out);
-    numbers(w)
+    numbers(rooms::reading(table, slot, visit, out))
 }
 
 #[unsafe(no_mangle)]
@@ -96,8 +91,7 @@ pub extern "C" fn floodrafter_room_close(table: &mut [u8], slot: u64, visit: u64
     ensures answer { result ≡ checked (held_status table.old slot visit) }
     ensures table { table.new ≡ closed table.old slot visit }
 {
-    let status = rooms::close(table, slot, visit);
-    numbers(Written { status, len: 0 })
+    checked_numbers(rooms::close(table, slot, visit))
 }
 
 #[unsafe(no_mangle)]

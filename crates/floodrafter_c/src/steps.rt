@@ -1,12 +1,13 @@
 // The step in two operations, for C: a box is a struct of its ends, and so is an answer.
 ghost use Rattle.std.specs.Prelude.{◌≡◌};
-ghost use Rattle.one_step.specs.OneStep.{gives_image, gives_move};
+ghost use Rattle.one_step.specs.OneStep.{gives_move};
 ghost use Rattle.floodrafter_c.specs.Steps.{ends_in, sides_of, shown_by, move_number, moved_by};
 ghost use Rattle.floodrafter_c.specs.Steps.{shown_start, shown_image};
 
-use faults::{Status, fault_number};
+use faults::Checked;
+use job_read::read_job;
+use jobs::Ends;
 use jobs::zero::zero_ends;
-use jobs::{Ends, Job};
 use one_step::Decided;
 use sizes::N;
 use step::Move;
@@ -39,41 +40,44 @@ pub struct Moved {
     pub sides: Sides,
 }
 
-fn ends_in(b: Sides) -> Ends
-    ensures { result ≡ ends_in b }
-{
-    let lo = b.lo;
-    let hi = b.hi;
-    Ends { lo, hi }
+impl From<Sides> for Ends {
+    ghost from_gives = { λ b e. e ≡ ends_in b };
+
+    fn from(b: Sides) -> Ends {
+        let Sides { lo, hi } = b;
+        Ends { lo, hi }
+    }
 }
 
-fn sides_of(e: Ends) -> Sides
-    ensures { result ≡ sides_of e }
-{
-    let lo = e.lo;
-    let hi = e.hi;
-    Sides { lo, hi }
+impl From<Ends> for Sides {
+    ghost from_gives = { λ e b. b ≡ sides_of e };
+
+    fn from(e: Ends) -> Sides {
+        let Ends { lo, hi } = e;
+        Sides { lo, hi }
+    }
 }
 
-fn show(status: Status, n: usize, e: Ends) -> Shown
-    ensures { result ≡ shown_by status n e }
+fn show(n: usize, box_told: Checked<Ends>) -> Shown
+    ensures { result ≡ shown_by n box_told }
 {
-    match status {
-        Status::Done => Shown {
+    match box_told {
+        Ok(e) => Shown {
             fault: 0,
             line: 0,
             n,
-            sides: sides_of(e),
+            sides: Sides::from(e),
         },
-        Status::Refused(f, line) => Shown {
-            fault: fault_number(f),
-            line,
+        Err(r) => Shown {
+            fault: u64::from(r.fault),
+            line: r.line,
             n: 0,
-            sides: sides_of(zero_ends()),
+            sides: Sides::from(zero_ends()),
         },
     }
 }
 
+// (No `From`: neither type is of this crate.)
 fn move_number(what: Move) -> u64
     ensures { result ≡ move_number what }
 {
@@ -85,26 +89,21 @@ fn move_number(what: Move) -> u64
     }
 }
 
-fn told(d: Decided) -> Moved
-    ensures { result ≡ moved_by d }
+fn told(decided: Checked<Decided>) -> Moved
+    ensures { result ≡ moved_by decided }
 {
-    let status = d.status;
-    let what = d.what;
-    let e = d.ends;
-    let verdict = move_number(what);
-    let sides = sides_of(e);
-    match status {
-        Status::Done => Moved {
+    match decided {
+        Ok(d) => Moved {
             fault: 0,
             line: 0,
-            verdict,
-            sides,
+            verdict: move_number(d.what),
+            sides: Sides::from(d.ends),
         },
-        Status::Refused(f, line) => Moved {
-            fault: fault_number(f),
-            line,
-            verdict,
-            sides,
+        Err(r) => Moved {
+            fault: u64::from(r.fault),
+            line: r.line,
+            verdict: move_number(Move::None),
+            sides: Sides::from(zero_ends()),
         },
     }
 }
@@ -113,29 +112,19 @@ fn told(d: Decided) -> Moved
 pub extern "C" fn floodrafter_start(text: &[u8]) -> Shown
     ensures { result ≡ shown_start text.now }
 {
-    let read = job_read::read_job(text);
-    let status = read.status;
-    show(status, read.job.head.n, read.job.ends)
-}
-
-fn image_of(j: Job, x: Ends) -> Shown
-    ensures { result ≡ shown_by (gives_image j x).status j.head.n (gives_image j x).ends }
-{
-    let image = one_step::image(j, x);
-    let status = image.status;
-    let ends = image.ends;
-    show(status, j.head.n, ends)
+    match read_job(text) {
+        Ok(j) => show(j.head.n, Ok(j.ends)),
+        Err(r) => show(0, Err(r)),
+    }
 }
 
 #[unsafe(no_mangle)]
 pub extern "C" fn floodrafter_image(text: &[u8], x: Sides) -> Shown
     ensures { result ≡ shown_image text.now (ends_in x) }
 {
-    let read = job_read::read_job(text);
-    let status = read.status;
-    match status {
-        Status::Refused(f, line) => show(Status::Refused(f, line), 0, zero_ends()),
-        Status::Done => image_of(read.job, ends_in(x)),
+    match read_job(text) {
+        Ok(j) => show(j.head.n, one_step::image(j, Ends::from(x))),
+        Err(r) => show(0, Err(r)),
     }
 }
 
@@ -143,5 +132,5 @@ pub extern "C" fn floodrafter_image(text: &[u8], x: Sides) -> Shown
 pub extern "C" fn floodrafter_decide(n: usize, x: Sides, k: Sides) -> Moved
     ensures { result ≡ moved_by (gives_move n (ends_in x) (ends_in k)) }
 {
-    told(one_step::decide(n, ends_in(x), ends_in(k)))
+    told(one_step::decide(n, Ends::from(x), Ends::from(k)))
 }

@@ -8,6 +8,7 @@ pub mod screens;
 pub mod steps;
 
 ghost use Rattle.std.specs.Prelude.{◌≡◌};
+ghost use Rattle.faults.specs.Checked.{status_of};
 ghost use Rattle.job_form.specs.JobForm.{read_job};
 ghost use Rattle.result_form.specs.ResultForm.{read_result};
 ghost use Rattle.desk.specs.Desk.{job_status, job_text, result_status, result_text, solve_status, solve_text};
@@ -43,28 +44,28 @@ pub extern "C" fn floodrafter_rewrite_result(text: &[u8], out: &mut [u8]) -> Ans
 
 #[unsafe(no_mangle)]
 pub extern "C" fn floodrafter_check_job(text: &[u8]) -> Answer
-    ensures { result ≡ checked status_of (read_job text.now) }
+    ensures { result ≡ checked (status_of (read_job text.now)) }
 {
     floodrafter_c::floodrafter_check_job(text)
 }
 
 #[unsafe(no_mangle)]
 pub extern "C" fn floodrafter_check_result(text: &[u8]) -> Answer
-    ensures { result ≡ checked status_of (read_result text.now) }
+    ensures { result ≡ checked (status_of (read_result text.now)) }
 {
     floodrafter_c::floodrafter_check_result(text)
 }
 
 #[unsafe(no_mangle)]
 pub extern "C" fn floodrafter_explain_job(text: &[u8], out: &mut [u8]) -> usize
-    ensures { Explains (found_in status_of (read_job text.now)) out.old out.new result }
+    ensures { Explains (found_in (status_of (read_job text.now))) out.old out.new result }
 {
     floodrafter_c::floodrafter_explain_job(text, out)
 }
 
 #[unsafe(no_mangle)]
 pub extern "C" fn floodrafter_explain_result(text: &[u8], out: &mut [u8]) -> usize
-    ensures { Explains (found_in status_of (read_result text.now))
+    ensures { Explains (found_in (status_of (read_result text.now)))
         out.old out.new result }
 {
     floodrafter_c::floodrafter_explain_result(text, out)

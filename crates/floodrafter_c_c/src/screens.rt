@@ -4,8 +4,8 @@ ghost use Rattle.result_form.specs.ResultShows.{show_result};
 ghost use Rattle.c_answers.specs.Numbers.{checked, Gives};
 ghost use Rattle.phrases.specs.Says.{Says, sentence_max};
 ghost use Rattle.sentences.specs.Sentences.{table_words};
-ghost use Rattle.room_form.specs.Table.{room_at};
-ghost use Rattle.room_form.specs.Calls.{clear_status, cleared, lowest_free, next_visit, open_status, opened};
+ghost use Rattle.room_form.specs.Table.{room_at, visit_in};
+ghost use Rattle.room_form.specs.Calls.{clear_status, cleared, lowest_free, next_visit, open_status, open_answer, opened};
 ghost use Rattle.room_form.specs.Calls.{held_status, after_step, stepped, closed};
 ghost use Rattle.floodrafter_c.specs.Screens.{opened_by};
 
@@ -22,8 +22,8 @@ pub extern "C" fn floodrafter_room_clear(table: &mut [u8]) -> Answer
 
 #[unsafe(no_mangle)]
 pub extern "C" fn floodrafter_room_open(table: &mut [u8], text: &[u8]) -> Opened
-    ensures answer { result ≡ opened_by (open_status table.old text.now)
-        (lowest_free table.old) (next_visit table.old) }
+    ensures answer { result ≡ opened_by (open_answer (open_status table.old text.now)
+        (lowest_free table.old) (next_visit table.old)) }
     ensures table { table.new ≡ opened table.old text.now }
 {
     floodrafter_c::screens::floodrafter_room_open(table, text)
@@ -52,7 +52,7 @@ pub extern "C" fn floodrafter_room_reading(
     out: &mut [u8],
 ) -> Answer
     ensures { Gives (held_status table.now slot visit)
-        (show_result (room_at table.now slot).reading) out.old out.new result }
+        (show_result (visit_in (room_at table.now slot)).reading) out.old out.new result }
 {
     floodrafter_c::screens::floodrafter_room_reading(table, slot, visit, out)
 }

@@ -1,6 +1,0 @@
--- `floodrafter_c::floodrafter_end_solve` meets its contract.
-use Rattle.c_answers.proofs.Gives.{gives}
-use Rattle.floodrafter_c.proofs.parts.floodrafter_end_solve.Goals as goal
-
-pub returns : goal.returns
-returns c = gives c.end_solve-w.ensures c.numbers.ensures
