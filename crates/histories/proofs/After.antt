@@ -13,6 +13,7 @@ use Rattle.jobs.specs.declared.Result.{Result}
 use Rattle.checks.specs.Checks.{check_job}
 use Rattle.checks.specs.CheckResult.{check_result}
 use Rattle.run.specs.Job.{result_of}
+use Rattle.checks.specs.Answered.{job_in}
 use Rattle.job_form.specs.JobForm.{read_job}
 use Rattle.job_form.proofs.Answers as job
 use Rattle.result_form.specs.ResultShows.{show_result, live}
@@ -20,8 +21,9 @@ use Rattle.cells.specs.Cells.{number_at, number_bytes, cell, zeros}
 use Rattle.cells.proofs.Cells.{number-alone, number_in, cell-length, zeros-length, wiped-number}
 use Rattle.visits.specs.Visits.{opened_as}
 use Rattle.visits.proofs.Readings.{opened-live, opened-right}
+use Rattle.room_form.specs.declared.Room.{Room}
 use Rattle.room_form.specs.Table.{rooms_max, job_from, slot_size, table_size, slot_from, slot_in}
-use Rattle.room_form.specs.Table.{last_in, free_room, taken_room, is_visit, room_of, room_at, is_whole}
+use Rattle.room_form.specs.Table.{last_in, taken_room, is_visit, room_of, room_at, is_whole}
 use Rattle.room_form.specs.Calls.{next_visit, with_visitor}
 use Rattle.room_form.proofs.Visited.{Visited, visited-room, are-together}
 use Rattle.room_form.proofs.Free.{is_free_lem, room-later}
@@ -81,7 +83,7 @@ module _ (t : List ℕ) (k : ℕ) (long : table_size ≤ length t) (live-slot : 
   zeros-fit : length (zeros slot_size) ≤ slot_size
   zeros-fit = omega (arith, zeros-length slot_size)
 
-  pub close-own : room_at (sets t (slot_from k) (zeros slot_size)) k ≡ free_room
+  pub close-own : room_at (sets t (slot_from k) (zeros slot_size)) k ≡ Room.Free
   close-own =
       is_free_lem _ _ (number_in (sets t (slot_from k) (zeros slot_size)) (slot_from k) slot_size job_from (omega arith)
       ∙ wiped-number t (slot_from k) slot_size job_from (omega arith) (omega arith))
@@ -98,7 +100,7 @@ module _ (t : List ℕ) (long : table_size ≤ length t) where
   pub clear-last : last_in (sets t 0 (zeros table_size)) ≡ 0
   clear-last = wiped-number t 0 table_size 0 (omega arith) (omega arith)
 
-  pub clear_room : (k : ℕ) → k < rooms_max → room_at (sets t 0 (zeros table_size)) k ≡ free_room
+  pub clear_room : (k : ℕ) → k < rooms_max → room_at (sets t 0 (zeros table_size)) k ≡ Room.Free
   clear_room k l =
       let place : slot_from k + job_from ≡ 0 + (slot_from k + job_from) = omega arith in
       is_free_lem _ _ (number_in (sets t 0 (zeros table_size)) (slot_from k) slot_size job_from (omega arith)
@@ -177,7 +179,7 @@ module _ (t text : List ℕ) (k : ℕ) (long : table_size ≤ length t) (live-sl
       (visitor-there (slot_in t k) j r (slot-long t k long live-slot) right (opened-live j checked visit) text
       (job.whole text read) belongs)
 
-  pub open-other : (i : ℕ) → (i ≡ k → ⊥) → is_whole (room_at t i).standing ≡ true → room_at after i ≡ room_at t i
+  pub open-other : (i : ℕ) → (i ≡ k → ⊥) → is_whole (room_at t i) ≡ true → room_at after i ≡ room_at t i
   open-other i ne whole =
       ap₂ room_of open-last
       (other-slot reading k job_from (cell text) text-fits i ne

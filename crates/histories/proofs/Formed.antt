@@ -19,13 +19,14 @@ use Rattle.faults.specs.Checks.{is_bad, bad_unless, on_line, and_then}
 use Rattle.faults.proofs.Laws.{unless-fine, fine-line, done_first, done_next}
 use Rattle.jobs.specs.declared.Job.{Job}
 use Rattle.jobs.specs.declared.Result.{Result}
+use Rattle.checks.specs.Answered.{job_in}
 use Rattle.job_form.specs.JobForm.{read_job}
 use Rattle.result_form.specs.ResultShows.{show_result, live}
 use Rattle.cells.specs.Cells.{cell, zeros}
 use Rattle.visits.specs.Visits.{opened_as, next_reading, Stands}
 use Rattle.visits.proofs.Readings.{few, next-stands, next-live, next-visit}
 use Rattle.room_form.specs.declared.Room.{Room}
-use Rattle.room_form.specs.Table.{rooms_max, table_size, slot_from, slot_size, last_in, taken_room, is_visit}
+use Rattle.room_form.specs.Table.{visit_in, rooms_max, table_size, slot_from, slot_size, last_in, taken_room, is_visit}
 use Rattle.room_form.specs.Table.{room_at, is_whole, whole}
 use Rattle.room_form.specs.Calls.{unless, table_status, cleared, lowest_free, next_visit, open_status, opened}
 use Rattle.room_form.specs.Calls.{with_visitor}
@@ -45,17 +46,17 @@ all_of (suc n) p h =
 
 -- the form, from its parts
 pub formed : (t : List ℕ) → table_size ≤ length t → last_in t ≤ visit_max
-    → ((k : ℕ) → k < rooms_max → is_whole (room_at t k).standing ≡ true) → whole t ≡ true
+    → ((k : ℕ) → k < rooms_max → is_whole (room_at t k) ≡ true) → whole t ≡ true
 formed t long last each = by-rooms t long last ∙ all_of rooms_max _ each
 
 -- where every room is the old one or a whole one
 formed-from : (t u : List ℕ) (k : ℕ) → length u ≡ length t → whole t ≡ true → last_in u ≤ visit_max
-    → is_whole (room_at u k).standing ≡ true → ((i : ℕ) → i < rooms_max → (i ≡ k → ⊥) → room_at u i ≡ room_at t i)
+    → is_whole (room_at u k) ≡ true → ((i : ℕ) → i < rooms_max → (i ≡ k → ⊥) → room_at u i ≡ room_at t i)
     → whole u ≡ true
 formed-from t u k long e last own other =
     formed u (omega (arith, whole_long t e, long)) last (λ i l.
-    same_or i k (λ same. subst (λ m. is_whole (room_at u m).standing ≡ true) (sym same) own) (λ ne.
-    ap (λ (r : Room). is_whole r.standing) (other i l ne) ∙ whole_each t e i l))
+    same_or i k (λ same. subst (λ m. is_whole (room_at u m) ≡ true) (sym same) own) (λ ne.
+    ap (λ (r : Room). is_whole r) (other i l ne) ∙ whole_each t e i l))
 
 -- ---- clearing
 
@@ -65,7 +66,7 @@ clear-formed t long =
     rw (le-leb table_size (length t) long)
     (formed (sets t 0 (zeros table_size)) (omega (arith, length-sets t 0 (zeros table_size)))
     (omega (arith, clear-last t long))
-    (λ k l. ap (λ (r : Room). is_whole r.standing) (clear_room t long k l)))
+    (λ k l. ap (λ (r : Room). is_whole r) (clear_room t long k l)))
 
 -- ---- opening
 
@@ -92,7 +93,8 @@ module _ (t text : List ℕ) (done : open_status t text ≡ Ok tt) where
       (unless-fine _ Fault.Visits (fine-line _ 0 (done_next _ _ (done_next (status_of (read_job text)) _ job-next))))
 
   pub open_is : opened t text
-      ≡ with_visitor t (lowest_free t) (next_visit t) (show_result (opened_as (next_visit t) (job_in (read_job text)))) text
+      ≡ with_visitor t (lowest_free t) (next_visit t)
+      (show_result (opened_as (next_visit t) (job_in (read_job text)))) text
   unfolding opened
   open_is = rw done refl
 
@@ -116,7 +118,7 @@ module _ (t text : List ℕ) (done : open_status t text ≡ Ok tt) where
   pub open-formed : whole (opened t text) ≡ true
   open-formed =
       formed-from t (opened t text) (lowest_free t) open-length open-whole
-      (omega (arith, opened-last, open-left)) (ap (λ (r : Room). is_whole r.standing) opened-own) opened-other
+      (omega (arith, opened-last, open-left)) (ap (λ (r : Room). is_whole r) opened-own) opened-other
     where
       open-length : length (opened t text) ≡ length t
       open-length = ap length open_is ∙ rw (length-sets, length-sets, length-sets) refl
@@ -125,10 +127,10 @@ module _ (t text : List ℕ) (done : open_status t text ≡ Ok tt) where
 
 module _ (t : List ℕ) (slot visit : ℕ) (good : is_bad (held_status t slot visit) ≡ false) where
   abbrev j : Job
-  j = (room_at t slot).job
+  j = (visit_in (room_at t slot)).job
 
   abbrev r : Result
-  r = (room_at t slot).reading
+  r = (visit_in (room_at t slot)).reading
 
   abbrev q : Result
   q = next_reading j r
@@ -180,7 +182,7 @@ module _ (t : List ℕ) (slot visit : ℕ) (good : is_bad (held_status t slot vi
   pub moved-formed : whole moved ≡ true
   moved-formed =
       formed-from t moved slot (length-sets t (slot_from slot) (cell (show_result q))) e
-      (omega (arith, moved-last, whole-last t e)) (ap (λ (r : Room). is_whole r.standing) moved-own)
+      (omega (arith, moved-last, whole-last t e)) (ap (λ (r : Room). is_whole r) moved-own)
       (λ i l ne. moved_other i ne)
 
   pub closed-formed : whole (sets t (slot_from slot) (zeros slot_size)) ≡ true
@@ -188,5 +190,5 @@ module _ (t : List ℕ) (slot visit : ℕ) (good : is_bad (held_status t slot vi
       formed-from t (sets t (slot_from slot) (zeros slot_size)) slot
       (length-sets t (slot_from slot) (zeros slot_size)) e
       (omega (arith, close-last t slot (whole_long t e) inside, whole-last t e))
-      (ap (λ (r : Room). is_whole r.standing) (close-own t slot (whole_long t e) inside))
+      (ap (λ (r : Room). is_whole r) (close-own t slot (whole_long t e) inside))
       (λ i l ne. close_other t slot (whole_long t e) inside i ne)

@@ -13,6 +13,7 @@ use Rattle.jobs.specs.declared.Result.{Result}
 use Rattle.result_form.specs.ResultShows.{show_result}
 use Rattle.cells.specs.Cells.{cell}
 use Rattle.visits.specs.Visits.{opened_as, next_reading, times}
+use Rattle.checks.specs.Answered.{job_in}
 use Rattle.job_form.specs.JobForm.{read_job}
 use Rattle.room_form.specs.Table.{slot_from, room_at}
 use Rattle.room_form.specs.Calls.{lowest_free, next_visit, open_status, opened, after_step, finished, stepped}

@@ -18,7 +18,7 @@ use Rattle.cells.specs.Cells.{cell, zeros}
 use Rattle.visits.specs.Visits.{next_reading}
 use Rattle.visits.proofs.Readings.{next-visit}
 use Rattle.room_form.specs.declared.Room.{Room}
-use Rattle.room_form.specs.Table.{rooms_max, slot_from, slot_size, taken_room, room_at, whole}
+use Rattle.room_form.specs.Table.{visit_in, rooms_max, slot_from, slot_size, taken_room, room_at, whole}
 use Rattle.room_form.specs.Calls.{is_free, first_from, lowest_free, open_status, opened, held_status, after_step}
 use Rattle.room_form.specs.Calls.{finished, stepped, closed}
 use Rattle.histories.specs.Histories.{Call, after, Holds, shows}
@@ -92,8 +92,8 @@ first-has (suc m) f k l = go (f k) refl l (first-has m f (suc k))
     go true e l rest = e
     go false e l rest = rest (omega arith)
 
-pub lowest-is-free : (t : List ℕ) → lowest_free t < rooms_max → is_free (room_at t (lowest_free t)).standing ≡ true
-lowest-is-free t l = first-has rooms_max (λ i. is_free (room_at t i).standing) 0 (omega arith)
+pub lowest-is-free : (t : List ℕ) → lowest_free t < rooms_max → is_free (room_at t (lowest_free t)) ≡ true
+lowest-is-free t l = first-has rooms_max (λ i. is_free (room_at t i)) 0 (omega arith)
 
 -- ---- a holder
 
@@ -135,7 +135,8 @@ module _ (t : List ℕ) (k v : ℕ) (j : Job) (r : Result) (h : Holds t k v j r)
     is-whole = moved-formed t k v own-good;
     inside = h.inside;
     room = moved-own t k v own-good
-        ∙ ap (λ (room : Room). taken_room room.job (next_reading room.job room.reading)) h.room;
+        ∙ ap (λ (room : Room).
+        taken_room (visit_in room).job (next_reading (visit_in room).job (visit_in room).reading)) h.room;
     visit = next-visit j r ∙ h.visit;
   }
 
@@ -154,8 +155,8 @@ module _ (t : List ℕ) (k v : ℕ) (j : Job) (r : Result) (h : Holds t k v j r)
       not-lowest : open_status t text ≡ Ok tt → k ≡ lowest_free t → ⊥
       not-lowest done e =
           let free = lowest-is-free t (open-slot t text done) in
-          true≢false (sym free ∙ ap (λ (i : ℕ). is_free (room_at t i).standing) (sym e)
-          ∙ ap (λ (room : Room). is_free room.standing) h.room)
+          true≢false (sym free ∙ ap (λ (i : ℕ). is_free (room_at t i)) (sym e)
+          ∙ ap (λ (room : Room). is_free room) h.room)
 
   -- a step that shows another slot or another visit
   pub step-apart : (slot visit space : ℕ) → shows k v slot visit ≡ false → Holds (stepped t slot visit space) k v j r

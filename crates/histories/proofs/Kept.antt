@@ -115,7 +115,7 @@ module _ (s : List ℕ) (j : Job) (r : Result) (long : length s ≡ slot_size) (
   -- and a job text behind it
   module _ (text : List ℕ) (read : read_job text ≡ Ok j) where
     fits : length text ≤ job_most
-    fits = job-short text (ap (λ (x : Checked Job). x.status) read)
+    fits = job-short text (ap (λ (x : Checked Job). status_of x) read)
 
     abbrev s'' : List ℕ
     s'' = sets s' job_from (cell text)
@@ -129,7 +129,7 @@ module _ (s : List ℕ) (j : Job) (r : Result) (long : length s ≡ slot_size) (
     pub visitor-there : {last : ℕ} → is_visit last j r ≡ true → Visited last s'' j r
     visitor-there visit = record {
       some = λ e.
-          text-some text (ap (λ (x : Checked Job). x.status) read)
+          text-some text (ap (λ (x : Checked Job). status_of x) read)
           (sym (length_back s' job_from text room (omega (arith, fits))) ∙ e);
       reading-fits = omega (
         arith,

@@ -7,6 +7,7 @@ use mathlib.Core.List.{List}
 use Rattle.digits.proofs.Cases.{same_or}
 use Rattle.jobs.specs.declared.Job.{Job}
 use Rattle.jobs.specs.declared.Result.{Result}
+use Rattle.checks.specs.Answered.{job_in}
 use Rattle.job_form.specs.JobForm.{read_job}
 use Rattle.job_form.proofs.Answers.{read-checked}
 use Rattle.result_form.specs.ResultForm.{with_visit}
@@ -15,7 +16,7 @@ use Rattle.step.specs.Values.{start_of}
 use Rattle.visits.specs.Visits.{reading_of, next_reading, times}
 use Rattle.visits.proofs.Steps.{steps-add}
 use Rattle.room_form.specs.declared.Room.{Room}
-use Rattle.room_form.specs.Table.{rooms_max, taken_room, room_at}
+use Rattle.room_form.specs.Table.{visit_in, rooms_max, taken_room, room_at}
 use Rattle.room_form.specs.Calls.{is_free, first_from, lowest_free, next_visit, open_status, opened}
 use Rattle.histories.specs.Histories.{Call, after_all, Holds, own_steps, Stays, reads_after}
 use Rattle.histories.proofs.Formed.{open-read}
@@ -55,8 +56,8 @@ below-first (suc m) f k i from l = go (f k) refl l (below-first m f (suc k) i)
     go true e l rest = absurd (omega arith)
     go false e l rest = same_or i k (λ is. ap f is ∙ e) (λ ne. rest (omega (arith, ne)) l)
 
-pub lower-taken : (t : List ℕ) (i : ℕ) → i < lowest_free t → is_free (room_at t i).standing ≡ false
-lower-taken t i l = below-first rooms_max (λ k. is_free (room_at t k).standing) 0 i (omega arith) l
+pub lower-taken : (t : List ℕ) (i : ℕ) → i < lowest_free t → is_free (room_at t i) ≡ false
+lower-taken t i l = below-first rooms_max (λ k. is_free (room_at t k)) 0 i (omega arith) l
 
 -- two holders of one job and one reading, after as many own step calls each
 pub two-histories : (h g : List Call) (t u : List ℕ) (k v i w : ℕ) (j : Job) (r : Result) → Holds t k v j r
@@ -75,9 +76,9 @@ pub same-readings : (h g : List Call) (t u text : List ℕ) → open_status t te
     ≡ own_steps (lowest_free u) (next_visit u) (opened u text) g
     → with_visit (reads_after t text h) 0 ≡ with_visit (reads_after u text g) 0
 same-readings h g t u text first second stays remains same =
-    ap (λ (room : Room). with_visit room.reading 0) (own-reading t text first h stays).room
+    ap (λ (room : Room). with_visit (visit_in room).reading 0) (own-reading t text first h stays).room
     ∙ ap (λ (calls : ℕ). with_visit (reading_of 0 job (run_from job (start_of job) (min calls job.steps))) 0) same
-    ∙ sym (ap (λ (room : Room). with_visit room.reading 0) (own-reading u text second g remains).room)
+    ∙ sym (ap (λ (room : Room). with_visit (visit_in room).reading 0) (own-reading u text second g remains).room)
   where
     job : Job
     job = (job_in (read_job text))

@@ -13,6 +13,7 @@ use Rattle.step.specs.Values.{box_of, start_of, inverse_of}
 use Rattle.run.specs.Job.{result_of}
 use Rattle.runs.specs.Boxes.{BoxInside}
 use Rattle.runs.proofs.Runs.{run-stays}
+use Rattle.checks.specs.Answered.{job_in}
 use Rattle.job_form.specs.JobForm.{read_job}
 use Rattle.job_form.proofs.Answers.{read-checked}
 use Rattle.promises.specs.Claims.{Point, Lies, Same}
@@ -21,6 +22,7 @@ use Rattle.promises.proofs.Demand3 as demand
 use Rattle.visits.specs.Visits.{reading_of}
 use Rattle.visits.proofs.Steps.{box-so-far}
 use Rattle.room_form.specs.declared.Room.{Room}
+use Rattle.room_form.specs.Table.{visit_in}
 use Rattle.room_form.specs.Calls.{lowest_free, next_visit, open_status, opened}
 use Rattle.histories.specs.Histories.{Call, after, own_steps, Stays, reads_after, box_after}
 use Rattle.histories.proofs.Formed.{open-read}
@@ -66,7 +68,7 @@ module _ (t text : List ℕ) (done : open_status t text ≡ Ok tt) where
 
   module _ (h : List Call) (stays : Stays k v h) where
     reads-run : reads h ≡ reading_of v j (job_run j (allowed h))
-    reads-run = ap (λ (room : Room). room.reading) (own-reading t text done h stays).room
+    reads-run = ap (λ (room : Room). (visit_in room).reading) (own-reading t text done h stays).room
 
     verdict-run : (reads h).verdict ≡ (job_run j (allowed h)).verdict
     unfolding result_of

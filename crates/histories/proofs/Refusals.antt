@@ -10,21 +10,21 @@ use lib.Dec.{ltb}
 use borrow.Author.Tests.{lt-ltb, lt-leb, le-leb, ltb-false}
 use Rattle.digits.proofs.Cases.{either}
 use Rattle.faults.specs.declared.Fault.{Fault}
-use Rattle.faults.specs.Checked.{Status, refused}
+use Rattle.faults.specs.Checked.{Status, refused, status_of}
 use Rattle.faults.specs.Words.{fault_number, fault_max, number_of}
 use Rattle.faults.specs.Checks.{is_bad, bad_unless, on_line, and_then}
 use Rattle.sizes.specs.Sizes.{text_max, visit_max}
 use Rattle.reading.proofs.Goes.{read-long}
 use Rattle.reading.proofs.Refused.{refused-blamed}
-use Rattle.lines.specs.Found.{status_of}
+use Rattle.lines.specs.Answered.{answered}
 use Rattle.lines.proofs.Faults.{OfLine, spelling}
 use Rattle.job_form.specs.JobForm.{job_form_of, read_job}
-use Rattle.job_form.proofs.Answers.{read-status, first-bad}
+use Rattle.job_form.proofs.Answers.{first-bad}
 use Rattle.job_form.proofs.Faults.{job-says}
 use Rattle.result_form.specs.ResultShows.{show_result}
 use Rattle.visits.specs.Visits.{next_reading}
-use Rattle.room_form.specs.declared.Standing.{Standing}
-use Rattle.room_form.specs.Table.{rooms_max, table_size, free_room, last_in, room_at, whole}
+use Rattle.room_form.specs.declared.Room.{Room}
+use Rattle.room_form.specs.Table.{visit_in, rooms_max, table_size, last_in, room_at, whole}
 use Rattle.room_form.specs.Calls.{clear_status, cleared, is_free, lowest_free, next_visit, open_status, opened}
 use Rattle.room_form.specs.Calls.{is_taken, holds, held_status, after_step, finished, stepped, closed}
 use Rattle.room_form.proofs.Whole.{whole_long, whole_each}
@@ -40,7 +40,7 @@ unfolding cleared bad_unless on_line
 cleared-next t long = rw (le-leb table_size (length t) long) (ap (λ (n : ℕ). n + 1) (clear-last t long))
 
 pub close-frees : (t : List ℕ) (slot visit : ℕ) → held_status t slot visit ≡ Ok tt
-    → room_at (closed t slot visit) slot ≡ free_room
+    → room_at (closed t slot visit) slot ≡ Room.Free
 unfolding closed
 close-frees t slot visit done =
     let at = held_at t slot visit (ap is_bad done) in
@@ -58,7 +58,7 @@ finished-unmoved t slot visit space e =
     go false false = refl
 
 pub finished-stays : (t : List ℕ) (slot visit space : ℕ) → finished (room_at t slot) ≡ true
-    → (stepped t slot visit space ≡ t) × (after_step t slot ≡ (room_at t slot).reading)
+    → (stepped t slot visit space ≡ t) × (after_step t slot ≡ (visit_in (room_at t slot)).reading)
 unfolding next_reading
 finished-stays t slot visit space e = (finished-unmoved t slot visit space e, rw e refl)
 
@@ -88,12 +88,13 @@ open-or-not t slot visit e = go (ltb slot rooms_max && holds (room_at t slot) vi
 -- no job text has a fault of the table
 text-fault : (text : List ℕ) (f : Fault) (n : ℕ) → status_of (read_job text) ≡ refused f n
     → fault_number f ≤ fault_max
+unfolding read_job
 text-fault text f n e =
     either text_max (length text)
-    (λ long. same-fault (sym (read-status text ∙ ap status_of (read-long job_form_of text long)) ∙ e))
+    (λ long. same-fault (sym (ap (λ a. status_of (answered a)) (read-long job_form_of text long)) ∙ e))
     (λ few. (refused-blamed OfLine spelling job-says ((first-bad text f n few).0 e)).of-text)
   where
-    same-fault : refused Fault.LongText 0 ≡ refused f n → fault_number f ≤ fault_max
+    same-fault : ◌≡◌ {A = Status} (refused Fault.LongText 0) (refused f n) → fault_number f ≤ fault_max
     same-fault q = omega (arith, ap number_of q)
 
 -- what a whole table refuses by a fault of its own: 13 where no slot is free, 14 where the last visit was handed out
@@ -102,7 +103,8 @@ own-fault : (t text : List ℕ) → whole t ≡ true → (f : Fault) → fault_m
     → ((fault_number f ≡ 13) × (rooms_max ≤ lowest_free t)) ⊎ ((fault_number f ≡ 14) × (visit_max ≤ last_in t))
 unfolding bad_unless on_line and_then
 own-fault t text e f own bad =
-    go (status_of (read_job text)) (ltb (lowest_free t) rooms_max) (ltb (last_in t) visit_max) refl refl refl (rw e at bad)
+    go (status_of (read_job text)) (ltb (lowest_free t) rooms_max) (ltb (last_in t) visit_max) refl refl refl
+    (rw e at bad)
   where
     go : (st : Status) (b c : Bool) → status_of (read_job text) ≡ st → ltb (lowest_free t) rooms_max ≡ b
         → ltb (last_in t) visit_max ≡ c
@@ -129,27 +131,27 @@ held-only-no-table t slot visit e bad = go (ltb slot rooms_max && holds (room_at
 
 -- ---- 13, then 14
 
-taken-not-free : (s : Standing) → is_taken s ≡ true → is_free s ≡ false
-taken-not-free Standing.Free e = sym e
-taken-not-free Standing.Taken e = refl
-taken-not-free Standing.Broken e = refl
+taken-not-free : (room : Room) → is_taken room ≡ true → is_free room ≡ false
+taken-not-free Room.Free e = sym e
+taken-not-free (Room.Taken v) e = refl
+taken-not-free Room.Broken e = refl
 
-pub none_left : (t : List ℕ) → ((i : ℕ) → i < rooms_max → is_taken (room_at t i).standing ≡ true)
+pub none_left : (t : List ℕ) → ((i : ℕ) → i < rooms_max → is_taken (room_at t i) ≡ true)
     → rooms_max ≤ lowest_free t
 none_left t taken =
     let k = lowest_free t in
     either k rooms_max
-    (λ l. absurd (true≢false (sym (lowest-is-free t l) ∙ taken-not-free (room_at t k).standing (taken k l)))) (λ l. l)
+    (λ l. absurd (true≢false (sym (lowest-is-free t l) ∙ taken-not-free (room_at t k) (taken k l)))) (λ l. l)
 
 -- a slot of a whole table that is not free is taken
 all-taken : (t : List ℕ) → whole t ≡ true → rooms_max ≤ lowest_free t → (i : ℕ) → i < rooms_max
-    → is_taken (room_at t i).standing ≡ true
+    → is_taken (room_at t i) ≡ true
 all-taken t e full i l =
-    free-or-taken (room_at t i).standing (whole_each t e i l)
+    free-or-taken (room_at t i) (whole_each t e i l)
     (λ free. absurd (true≢false (sym free ∙ lower-taken t i (omega arith)))) (λ taken. taken)
 
 pub only-full : (t text : List ℕ) → whole t ≡ true → open_status t text ≡ refused Fault.Full 0 → (i : ℕ)
-    → i < rooms_max → is_taken (room_at t i).standing ≡ true
+    → i < rooms_max → is_taken (room_at t i) ≡ true
 only-full t text e bad =
     ⊎_elim (λ is. all-taken t e is.1) (λ is. absurd (omega (arith, is.0)))
     (own-fault t text e Fault.Full (omega arith) bad)
@@ -160,7 +162,7 @@ only-last t text e bad =
     ⊎_elim (λ is. absurd (omega (arith, is.0))) (λ is. is.1) (own-fault t text e Fault.Visits (omega arith) bad)
 
 -- a slot that is free leaves a lowest one
-pub some_left : (t : List ℕ) (i : ℕ) → i < rooms_max → is_free (room_at t i).standing ≡ true → lowest_free t < rooms_max
+pub some_left : (t : List ℕ) (i : ℕ) → i < rooms_max → is_free (room_at t i) ≡ true → lowest_free t < rooms_max
 some_left t i l free =
     either (lowest_free t) rooms_max (λ some. some)
     (λ full. absurd (true≢false (sym free ∙ lower-taken t i (omega arith))))

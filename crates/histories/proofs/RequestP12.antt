@@ -15,6 +15,7 @@ use Rattle.jobs.specs.declared.Job.{Job}
 use Rattle.jobs.specs.declared.Result.{Result}
 use Rattle.jobs.specs.declared.Verdict.{Verdict}
 use Rattle.checks.specs.Checks.{check_job}
+use Rattle.checks.specs.Answered.{job_in}
 use Rattle.job_form.specs.JobForm.{read_job}
 use Rattle.result_form.specs.ResultShows.{show_result}
 use Rattle.result_form.specs.ResultForm.{with_visit}
@@ -25,7 +26,8 @@ use Rattle.promises.specs.Claims.{Point, Lies, Same}
 use Rattle.promises.specs.Jobs.{job_run, Solves}
 use Rattle.visits.specs.Visits.{reading_of, next_reading, times, opened_as}
 use Rattle.visits.proofs.Steps as steps
-use Rattle.room_form.specs.Table.{table_size, free_room, last_in, room_at, whole}
+use Rattle.room_form.specs.declared.Room.{Room}
+use Rattle.room_form.specs.Table.{visit_in, table_size, last_in, room_at, whole}
 use Rattle.room_form.specs.Calls.{clear_status, cleared, is_free, lowest_free, next_visit, open_status, opened}
 use Rattle.room_form.specs.Calls.{is_taken}
 use Rattle.room_form.specs.Calls.{held_status, after_step, finished, stepped, closed}
@@ -45,10 +47,10 @@ use Rattle.std.specs.Prelude.{Ok}
 
 -- "Opening takes the lowest free slot": it is free, and no lower one is;
 pub slot-free : (t text : List ℕ) → open_status t text ≡ Ok tt
-    → is_free (room_at t (lowest_free t)).standing ≡ true
+    → is_free (room_at t (lowest_free t)) ≡ true
 slot-free t text done = isolated.lowest-is-free t (formed.open-slot t text done)
 
-pub slot-lowest : (t : List ℕ) (i : ℕ) → i < lowest_free t → is_free (room_at t i).standing ≡ false
+pub slot-lowest : (t : List ℕ) (i : ℕ) → i < lowest_free t → is_free (room_at t i) ≡ false
 slot-lowest = own.lower-taken
 
 -- "and hands out a visit number, 1 upward from a clearing"
@@ -65,7 +67,7 @@ not-reused = stale.stale
 
 -- "Closing frees the slot."
 pub close-frees : (t : List ℕ) (slot visit : ℕ) → held_status t slot visit ≡ Ok tt
-    → room_at (closed t slot visit) slot ≡ free_room
+    → room_at (closed t slot visit) slot ≡ Room.Free
 close-frees = refusals.close-frees
 
 -- ---- steps
@@ -88,7 +90,7 @@ spent-so-far = steps.reads-spent
 
 -- "a step call answers with the reading after it and changes nothing on a finished one."
 pub finished-stays : (t : List ℕ) (slot visit space : ℕ) → finished (room_at t slot) ≡ true
-    → (stepped t slot visit space ≡ t) × (after_step t slot ≡ (room_at t slot).reading)
+    → (stepped t slot visit space ≡ t) × (after_step t slot ≡ (visit_in (room_at t slot)).reading)
 finished-stays = refusals.finished-stays
 
 -- ---- isolation
@@ -193,16 +195,16 @@ then-job = opening.no-job
 
 -- "then 13 exactly when all eight slots are taken,"
 pub then-full : (t text : List ℕ) → whole t ≡ true → is_bad (status_of (read_job text)) ≡ false
-    → ((i : ℕ) → i < 8 → is_taken (room_at t i).standing ≡ true) → open_status t text ≡ refused Fault.Full 0
+    → ((i : ℕ) → i < 8 → is_taken (room_at t i) ≡ true) → open_status t text ≡ refused Fault.Full 0
 then-full t text e right taken = opening.is-full t text e right (refusals.none_left t taken)
 
 pub only-full : (t text : List ℕ) → whole t ≡ true → open_status t text ≡ refused Fault.Full 0 → (i : ℕ) → i < 8
-    → is_taken (room_at t i).standing ≡ true
+    → is_taken (room_at t i) ≡ true
 only-full = refusals.only-full
 
 -- "then 14 after visit 999,999,999;"
 pub then-visits : (t text : List ℕ) → whole t ≡ true → is_bad (status_of (read_job text)) ≡ false → (i : ℕ) → i < 8
-    → is_free (room_at t i).standing ≡ true → 999999999 ≤ last_in t → open_status t text ≡ refused Fault.Visits 0
+    → is_free (room_at t i) ≡ true → 999999999 ≤ last_in t → open_status t text ≡ refused Fault.Visits 0
 then-visits t text e right i l free = opening.no-visit t text e right (refusals.some_left t i l free)
 
 pub only-visits : (t text : List ℕ) → whole t ≡ true → open_status t text ≡ refused Fault.Visits 0
@@ -211,7 +213,7 @@ only-visits = refusals.only-last
 
 -- and no refusal else
 pub else-opened : (t text : List ℕ) → whole t ≡ true → is_bad (status_of (read_job text)) ≡ false → (i : ℕ) → i < 8
-    → is_free (room_at t i).standing ≡ true → last_in t < 999999999 → open_status t text ≡ Ok tt
+    → is_free (room_at t i) ≡ true → last_in t < 999999999 → open_status t text ≡ Ok tt
 else-opened t text e right i l free = opening.is-opened t text e right (refusals.some_left t i l free)
 
 -- "other calls, 15 for a slot or visit not open, next after 16,"

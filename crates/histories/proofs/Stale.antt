@@ -14,7 +14,7 @@ use Rattle.cells.specs.Cells.{cell, zeros}
 use Rattle.result_form.specs.ResultShows.{show_result}
 use Rattle.visits.proofs.Readings.{next-visit}
 use Rattle.room_form.specs.declared.Room.{Room}
-use Rattle.room_form.specs.Table.{rooms_max, slot_from, slot_size, last_in, room_at, whole}
+use Rattle.room_form.specs.Table.{visit_in, rooms_max, slot_from, slot_size, last_in, room_at, whole}
 use Rattle.room_form.specs.Calls.{lowest_free, open_status, opened, holds, held_status, after_step}
 use Rattle.histories.specs.Histories.{Call, after, after_all}
 use Rattle.room_form.proofs.Whole.{whole_long}
@@ -96,8 +96,9 @@ module _ (t : List ℕ) (k v : ℕ) (g : Gone t k v) where
         gone = λ l.
             ap (λ (i : ℕ). holds (room_at (sets t (slot_from slot) (cell (show_result (after_step t slot)))) i) v) e
             ∙ ap (λ (room : Room). holds room v) (moved-own t slot visit good)
-            ∙ ap (λ (w : ℕ). eqb w v) (next-visit (room_at t slot).job (room_at t slot).reading)
-            ∙ sym (ap (λ (b : Bool). b && eqb (room_at t slot).reading.visit v) (held_at t slot visit good).taken)
+            ∙ ap (λ (w : ℕ). eqb w v) (next-visit (visit_in (room_at t slot)).job (visit_in (room_at t slot)).reading)
+            ∙ sym (ap (λ (b : Bool). b && eqb (visit_in (room_at t slot)).reading.visit v)
+            (held_at t slot visit good).taken)
             ∙ ap (λ (i : ℕ). holds (room_at t i) v) (sym e) ∙ g.gone l;
       }) (λ ne. as_before _ (omega (arith, last)) (λ l. moved_other t slot visit good k ne))
 

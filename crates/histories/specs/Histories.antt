@@ -6,9 +6,10 @@ use Rattle.intervals.specs.declared.Interval.{Interval}
 use Rattle.jobs.specs.declared.Job.{Job}
 use Rattle.jobs.specs.declared.Result.{Result}
 use Rattle.step.specs.Values.{box_of}
+use Rattle.checks.specs.Answered.{job_in}
 use Rattle.job_form.specs.JobForm.{read_job}
 use Rattle.result_form.specs.ResultShows.{show_result}
-use Rattle.room_form.specs.Table.{rooms_max, taken_room, room_at, whole}
+use Rattle.room_form.specs.Table.{visit_in, rooms_max, taken_room, room_at, whole}
 use Rattle.room_form.specs.Calls.{lowest_free, opened, after_step, stepped, closed}
 
 -- a call with what it shows: a job text; or a slot, a visit and how many bytes its buffer has
@@ -66,7 +67,7 @@ Stays k v (c ∷ h) = Keeps k v c × Stays k v h
 
 -- what it reads as after a history of calls
 abbrev pub reads_after : List ℕ → List ℕ → List Call → Result
-reads_after t text h = (room_at (after_all (opened t text) h) (lowest_free t)).reading
+reads_after t text h = (visit_in (room_at (after_all (opened t text) h) (lowest_free t))).reading
 
 -- and the box of that
 abbrev pub box_after : List ℕ → List ℕ → List Call → List Interval
