@@ -9,7 +9,7 @@ use borrow.Author.Tests.{le-ltb}
 use Rattle.sizes.specs.Sizes.{text_max}
 use Rattle.checks.specs.CheckResult.{check_result}
 use Rattle.jobs.specs.declared.Result.{Result}
-use Rattle.faults.specs.Checked.{Written, Checked}
+use Rattle.faults.specs.Checked.{Checked}
 use Rattle.writing.specs.Wrote.{Wrote}
 use Rattle.faults.specs.Answer.{answer_of, left_in, Leaves}
 use Rattle.writing.proofs.Wrote.{wrote-append}
@@ -28,19 +28,27 @@ pub record Whole (r : Result) (new : List ℕ) (k : ℕ) : Type 0 where
   pub text : take k new ≡ show_result r
 
 module _ (r : Result) where
-  pub result-whole : {old new : List ℕ} {a : Written} → check_result r ≡ Ok tt → text_max ≤ length old
-      → Leaves (check_result r) (show_result r) old new a → Whole r new a.len
-  unfolding answer_of left_in
-  result-whole {old} {new} {a} e room l =
+  -- a text's buffer has room for it
+  pub result-done : {old new : List ℕ} {a : Checked ℕ} → check_result r ≡ Ok tt → text_max ≤ length old
+      → Leaves (Ok tt) (show_result r) old new a → a ≡ Ok (length (show_result r))
+  unfolding answer_of
+  result-done {old} e room l =
       let t = show_result r in
       let fits = le-ltb (length old) (length t) (omega (arith, checked-short r e)) in
-      let done : Leaves (Ok tt) t old new a = rw e at l in
-      let answer : a ≡ Ok (length t) = done.answer ∙ rw fits in
-      let k : a.len ≡ length t = ap (λ (w : Checked ℕ). w.len) answer in
-      let is : new ≡ t ++ drop (length t) old = done.left ∙ rw fits in
+      l.answer ∙ rw fits
+
+  pub result-whole : {old new : List ℕ} {k : ℕ} → check_result r ≡ Ok tt → text_max ≤ length old
+      → Leaves (Ok tt) (show_result r) old new (Ok k) → Whole r new k
+  unfolding left_in
+  result-whole {old} {new} {k} e room l =
+      let t = show_result r in
+      let fits = le-ltb (length old) (length t) (omega (arith, checked-short r e)) in
+      let answer = result-done e room l in
+      let n : k ≡ length t = cc in
+      let is : new ≡ t ++ drop (length t) old = l.left ∙ rw fits in
       record {
-        inside = rw (k, is, length-append t (drop (length t) old)) (omega arith);
-        text = rw (k, is) (take-append_seam t (drop (length t) old));
+        inside = rw (n, is, length-append t (drop (length t) old)) (omega arith);
+        text = rw (n, is) (take-append_seam t (drop (length t) old));
       }
 
   pub both-written : {old mid new text : List ℕ} {at len : ℕ} → text ≡ show_result r → Wrote old mid 0 at text

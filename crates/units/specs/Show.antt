@@ -11,6 +11,7 @@ use Rattle.result_form.specs.ResultShows.{show_result}
 use Rattle.result_write.specs.Ready.{Ready}
 use Rattle.reading.specs.NumberLines.{placed}
 use Rattle.job_form.specs.JobForm.{read_job}
+use Rattle.checks.specs.Answered.{job_in, result_in}
 use Rattle.run.specs.Job.{run_job}
 use Rattle.decimals.specs.Units.{show_units}
 

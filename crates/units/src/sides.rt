@@ -34,12 +34,8 @@ pub fn put_unknowns(buf: &mut [u8], at: usize, lo: [i64; N], hi: [i64; N], n: us
     ensures { Wrote buf.old buf.new at result (unknown_lines n lo hi) }
 {
     let mut p = at;
-    let mut i = 0;
-    while i < n {
-        let low = lo[i];
-        let high = hi[i];
-        p = put_unknown(buf, p, i as u64 + 1, low, high);
-        i += 1;
+    for i in 0..n {
+        p = put_unknown(buf, p, i as u64 + 1, lo[i], hi[i]);
     }
     p
 }

@@ -1,19 +1,16 @@
 -- `units::write_units` meets its contract.
-use mathlib.Core.Path.{sym, ◌∙◌}
+use mathlib.Core.Path.{sym}
+use Rattle.std.proofs.lemmas.Result.{err_from_is_err_and}
 use Rattle.faults.proofs.Answer.{values-bad}
-use Rattle.units.specs.Show.{units_of}
 use Rattle.units.proofs.write_units.Goals as goal
 
 pub write_checked-requires : goal.write_checked-requires
-write_checked-requires c = sym c.check_result-status.ensures ∙ c.in-Done.is
+write_checked-requires c = sym c.in_ok-check_result.ensures
 
-pub returns-in-Refused : goal.returns-in-Refused
-returns-in-Refused c =
-    let args = c.args in
-    rw (sym c.check_result-status.ensures ∙ c.in-Refused.is)
-    (values-bad (units_of args.r) args.out.now _ _)
+pub returns-in_err-check_result : goal.returns-in_err-check_result
+returns-in_err-check_result c =
+    let p = err_from_is_err_and c.from_residual.result c.from_residual.ensures.1 in
+    rw (p.1, p.2, ← c.in_err-check_result.ensures) (values-bad _ _ _)
 
-pub returns-in-Done : goal.returns-in-Done
-returns-in-Done c =
-    rw (sym c.check_result-status.ensures ∙ c.in-Done.is)
-    c.write_checked.ensures
+pub returns : goal.returns
+returns c = rw (← c.in_ok-check_result.ensures) c.write_checked.ensures

@@ -13,6 +13,3 @@ pub record Inv (old new : List ℕ) (lo hi : List ℤ) (at n p i : ℕ) : Type 0
 
 abbrev pub invariant-loop-i : goal.invariant-loop-i
 invariant-loop-i l = Inv l.initial.buf l.buf l.lo l.hi l.at l.n l.p l.i
-
-abbrev pub decreases-loop-i : goal.decreases-loop-i
-decreases-loop-i l = l.n - l.i
