@@ -42,7 +42,7 @@ pub fn key_bytes(key: Key) -> &'static [u8]
 // The place after the key, where it stands there.
 pub fn past_key(text: &[u8], at: usize, key: Key) -> Option<usize>
     requires { at ≤ length text.now }
-    ensures { IfSome result (λ from. from ≤ length text.now) }
+    ensures { IfSome result (λ from. (at ≤ from) × (from ≤ length text.now)) }
 {
     let rest = text[at..].strip_prefix(key_bytes(key))?;
     Some(text.len() - rest.len())
