@@ -15,8 +15,8 @@ use checks::job::{check_job, unknowns_check};
 use faults::{Checked, Fault, bad_unless, on_line};
 use intervals::Interval;
 use jobs::{Ends, Equation, Job};
-use slopes::Over;
 use sizes::{END, IMAGE, N};
+use slopes::Over;
 use step::{Move, values};
 use term_checks::ranges::{all_ordered, all_within};
 

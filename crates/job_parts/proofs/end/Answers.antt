@@ -40,7 +40,7 @@ returns-then-p-gt0 c =
       c.line_in.ensures,
     )
     (elim c.then-p-gt0.branch [
-      then-p-gt0-via-then-p-gt0 w ↦ end-held p fit c.if-p-gt-TEXT.false c.if-read-ne0.false w.if-p-gt0.true
+      | then-p-gt0-via-then-p-gt0 w ↦ end-held p fit c.if-p-gt-TEXT.false c.if-read-ne0.false w.if-p-gt0.true
       | then-p-gt0-via-else-p-gt0+then-read-ne0-2 w ↦
           end-missing p fit c.if-p-gt-TEXT.false c.if-read-ne0.false w.if-p-gt0.false w.if-read-ne0-2.true
     ])

@@ -28,21 +28,21 @@ loop-b-preserved c =
     let going = c.loop-b.invariant.1 in
     let long = c.loop-b.invariant.0 in
     elim c.if-b-eq10.branch [
-      then-b-eq10+then-s-eq0 w ↦
+      | then-b-eq10+then-s-eq0 w ↦
           rw (w.s-is, w.line_taken-s.ensures) (
-          rw (length-set _ _ _) long,
-          going-line _ _ going c.loop-b-test.true c.if-s-ge-TEXT.false w.if-b-eq10.true,
+            rw (length-set _ _ _) long,
+            going-line _ _ going c.loop-b-test.true c.if-s-ge-TEXT.false w.if-b-eq10.true,
           )
       | then-b-eq10+else-s-eq0 w ↦
           rw w.s-is (
-          rw (length-set _ _ _) long,
-          rw (line_stays c.loop-b.s.read _ w.if-s-eq0.false) at
-          (going-line _ _ going c.loop-b-test.true c.if-s-ge-TEXT.false w.if-b-eq10.true),
+            rw (length-set _ _ _) long,
+            rw (line_stays c.loop-b.s.read _ w.if-s-eq0.false) at
+                (going-line _ _ going c.loop-b-test.true c.if-s-ge-TEXT.false w.if-b-eq10.true),
           )
       | else-b-eq10 w ↦
           rw w.s-is (
-          rw (length-set _ _ _) long,
-          going-byte _ _ going c.loop-b-test.true c.if-s-ge-TEXT.false w.if-b-eq10.false,
+            rw (length-set _ _ _) long,
+            going-byte _ _ going c.loop-b-test.true c.if-s-ge-TEXT.false w.if-b-eq10.false,
           )
     ]
 

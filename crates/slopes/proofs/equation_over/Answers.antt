@@ -119,7 +119,7 @@ add-requires c =
     rw (
       row_read _ _ _ _ in-n row c.requires.x_in.places,
       part a.q (side_at a.x) c.loop-i.i l c.loop-j-test.true c.loop-k-2-test.false c.loop-k-2.invariant
-      c.scaled.ensures,
+          c.scaled.ensures,
     )
     (slope-sum-fits c.requires.x_in c.requires.q_in _ in-n c.loop-i.i c.loop-i-test.true)
 
