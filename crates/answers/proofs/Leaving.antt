@@ -1,18 +1,18 @@
 -- What calls on the table of rooms leave in the buffer: no text, a slot and a visit, a reading of at most ROOM bytes.
-use Prim.Native.Nat.{ℕ, ◌-◌, ◌≤◌}
+use Prim.Native.Nat.{ℕ, ◌≤◌}
 use native.Mathlib.Omega.{arith}
 use native.Mathlib.Nat.{zero-add}
-use mathlib.Core.Path.{◌≡◌, refl, ap, subst, ◌∙◌}
+use mathlib.Core.Path.{◌≡◌, refl, ap, ◌∙◌}
 use mathlib.Core.Bool.{Bool, true, false}
 use mathlib.Core.List.{List, [], ◌++◌}
 use lib.ListN.{length, take, drop, take-append-drop}
 use lib.Seq.{sets-eq, length-take-le}
 use lib.Dec.{leb}
 use borrow.Author.Tests.{leb-true, leb-false, lt-ltb, le-ltb}
-use Rattle.faults.specs.Answer.{refused, answer_of, left_in, Leaves}
+use Rattle.faults.specs.Answer.{answer_of, left_in, Leaves}
 use Rattle.faults.specs.Checks.{bad_unless, on_line, and_then}
-use Rattle.faults.specs.declared.Fault.{Fault}
-use Rattle.faults.specs.Checked.{Status, Written, Checked}
+use Rattle.faults.specs.declared.Refusal.{Refusal}
+use Rattle.faults.specs.Checked.{Status, Checked}
 use Rattle.faults.proofs.Answer.{values-bad, has_room}
 use Rattle.text.specs.Words.{visit_key}
 use Rattle.writing.specs.Wrote.{Wrote}
@@ -22,26 +22,27 @@ use Rattle.room_form.specs.declared.Opened.{Opened}
 use Rattle.room_form.specs.Calls.{open_answer}
 use Rattle.answers.specs.Answers.{room_max}
 use Rattle.answers.specs.Calls.{slot_key, opened_bytes, or_short}
-use Rattle.std.specs.Prelude.{Ok, Err}
+use Rattle.std.specs.Prelude.{Ok, Err, MatchResult}
 
 -- ---- no text
 
-pub silent-leaves : (st : Status) (old : List ℕ) → Leaves st [] old old (refused st)
-silent-leaves (Ok tt) old = has_room [] old (omega arith) refl
-silent-leaves (Err r) old = values-bad [] old r.fault r.line
+pub silent-leaves : (st : Status) (old : List ℕ) {a : Checked ℕ}
+    → MatchResult st (λ u. a ≡ Ok 0) (λ r. a ≡ Err r) → Leaves st [] old old a
+silent-leaves (Ok tt) old e = rw e (has_room [] old (omega arith) refl)
+silent-leaves (Err r) old e = rw e (values-bad [] old r)
 
 -- ---- a slot and a visit
 
-module _ {r : Opened} where
-  pub opened-status : (st : Status) (slot visit : ℕ) → r ≡ open_answer st slot visit → r.status ≡ st
-  unfolding open_answer
-  opened-status (Ok tt) slot visit e = ap (λ (x : Opened). x.status) e
-  opened-status (Err r) slot visit e = ap (λ (x : Opened). x.status) e
+pub opened-done : {st : Status} {slot visit : ℕ} {r : Opened} → Ok r ≡ open_answer st slot visit
+    → (st ≡ Ok tt) × (r ≡ record { slot = slot; visit = visit })
+unfolding open_answer
+opened-done {st = Ok u} e = (refl, cc)
+opened-done {st = Err q} e = absurd (cc)
 
-  pub opened-done : {st : Status} {slot visit : ℕ} → r ≡ open_answer st slot visit → st ≡ Ok tt
-      → r ≡ record { status = Ok tt; slot = slot; visit = visit }
-  unfolding open_answer
-  opened-done e d = rw d at e
+pub opened-bad : {st : Status} {q : Refusal} (slot visit : ℕ) → Err q ≡ open_answer st slot visit → st ≡ Err q
+unfolding open_answer
+opened-bad {st = Ok u} slot visit e = absurd (cc)
+opened-bad {st = Err r} slot visit e = cc
 
 opened-short : (slot visit : ℕ) → length (opened_bytes slot visit) ≤ room_max
 unfolding opened_bytes
@@ -71,9 +72,9 @@ module _ (t old : List ℕ) (room : ℕ) (inside : room ≤ length old) where
   lent-long : length (take room old) ≡ room
   lent-long = length-take-le room old inside
 
-  part-bad : (f : Fault) (line : ℕ) → Whole room (refused f line)
+  part-bad : (r : Refusal) → Whole room (Err r)
   unfolding answer_of left_in and_then
-  part-bad f line new a w = record {
+  part-bad r new a w = record {
     answer = w.answer;
     left = ap (λ (xs : List ℕ). xs ++ drop room old) w.left ∙ take-append-drop room old;
   }
@@ -102,9 +103,6 @@ module _ (t old : List ℕ) (room : ℕ) (inside : room ≤ length old) where
   part-done true e = part-short e
   part-done false e = part-long e
 
-  part-whole : (st : Status) → Whole room st
-  part-whole (Ok tt) = part-done (leb (length t) room) refl
-  part-whole (Err r) = part-bad r.fault r.line
-
-  pub part-leaves : (st : Status) → Whole (room - 0) st
-  part-leaves st = let e : room ≡ room - 0 = omega arith in subst (λ (m : ℕ). Whole m st) e (part-whole st)
+  pub part-leaves : (st : Status) → Whole room st
+  part-leaves (Ok tt) = part-done (leb (length t) room) refl
+  part-leaves (Err r) = part-bad r

@@ -1,18 +1,20 @@
 -- What a request is answered with, and how the answer is put.
-use Rattle.std.specs.Prelude.{ℕ, ◌+◌, ◌≤◌, ◌≡◌, List, [], ◌∷◌, ◌++◌, length, take, drop, Ok, Err}
+use Rattle.std.specs.Prelude.{ℕ, ◌+◌, ◌≤◌, ◌≡◌, List, [], ◌∷◌, ◌++◌, length, take, drop, Ok, Err, unwrap_or, pos}
 use Rattle.sizes.specs.Sizes.{text_max, boxes_max}
 use Rattle.digits.specs.Bytes.{line_feed}
 use Rattle.digits.specs.Number.{digits_max}
 use Rattle.digits.specs.Show.{show_magnitude}
 use Rattle.text.specs.Cut.{end_each}
-use Rattle.faults.specs.Words.{number_of, line_of}
-use Rattle.faults.specs.Checked.{Status, Written, Checked}
+use Rattle.faults.specs.Words.{fault_number}
+use Rattle.faults.specs.declared.Refusal.{Refusal}
+use Rattle.faults.specs.Checked.{Status, Checked}
 use Rattle.writing.specs.Wrote.{Wrote, line}
 use Rattle.desk.specs.Desk.{solve_status, solve_text, job_status, job_text, result_status, result_text}
 use Rattle.arguments.specs.Words.{space, behind}
 use Rattle.arguments.specs.Boxes.{boxed_by, told_by}
 use Rattle.arguments.specs.Depths.{deep_by}
-use Rattle.arguments.specs.declared.boxes.Boxed.{Boxed}
+use Rattle.jobs.specs.declared.Ends.{Ends}
+use Rattle.jobs.specs.Zero.{zero_ends}
 use Rattle.arguments.specs.declared.boxes.Told.{Told}
 use Rattle.arguments.specs.declared.depths.Deep.{Deep}
 use Rattle.one_step.specs.OneStep.{decide_status}
@@ -21,17 +23,25 @@ use Rattle.requests.specs.declared.Op.{Op}
 
 -- ---- the arguments, behind the first word
 
+-- (all zero where they are not good: no request has such words)
+
 -- `image LO HI`
-unfoldable pub box_asked : List ℕ → Boxed
-box_asked w = boxed_by (behind space w)
+unfoldable pub box_asked : List ℕ → Ends
+box_asked w = unwrap_or (boxed_by (behind space w)) zero_ends
 
 -- `decide N LO HI KLO KHI`
+abbrev pub not_told : Told
+not_told = record { n = 0; x = zero_ends; k = zero_ends }
+
 unfoldable pub told_asked : List ℕ → Told
-told_asked w = told_by (behind space w)
+told_asked w = unwrap_or (told_by (behind space w)) not_told
 
 -- `halve DEPTH ROOM`, ROOM at most what so many halvings list
+abbrev pub not_deep : Deep
+not_deep = record { depth = pos 0; room = 0 }
+
 pub record DeepAsked (r : Deep) (w : List ℕ) : Type 0 where
-  pub is : r ≡ deep_by (behind space w)
+  pub is : r ≡ unwrap_or (deep_by (behind space w)) not_deep
   pub few : r.room ≤ boxes_max
 
 unfoldable pub told_status : List ℕ → Status
@@ -50,7 +60,7 @@ status_of Op.Job w t = job_status t
 status_of Op.Parts w t = job_status t
 status_of Op.Result w t = result_status t
 status_of Op.Image w t = own_status t
-status_of Op.ImageIn w t = box_status t (box_asked w).ends
+status_of Op.ImageIn w t = box_status t (box_asked w)
 status_of Op.Decide w t = told_status w
 
 unfoldable pub text_of : Op → List ℕ → List ℕ → List ℕ
@@ -59,7 +69,7 @@ text_of Op.Job w t = job_text t
 text_of Op.Parts w t = job_text t
 text_of Op.Result w t = result_text t
 text_of Op.Image w t = own_image t
-text_of Op.ImageIn w t = box_image t (box_asked w).ends
+text_of Op.ImageIn w t = box_image t (box_asked w)
 text_of Op.Decide w t = told_text w
 
 -- `fault=`
@@ -71,10 +81,10 @@ abbrev pub line_key : List ℕ
 line_key = 108 ∷ 105 ∷ 110 ∷ 101 ∷ 61 ∷ []
 
 -- "A fault returns its number and a line": a line for each
-unfoldable pub fault_bytes : Status → List ℕ
-fault_bytes st =
+unfoldable pub fault_bytes : Refusal → List ℕ
+fault_bytes r =
     end_each line_feed
-    ((fault_key ++ show_magnitude digits_max (number_of st)) ∷ (line_key ++ show_magnitude digits_max (line_of st)) ∷
+    ((fault_key ++ show_magnitude digits_max (fault_number r.fault)) ∷ (line_key ++ show_magnitude digits_max r.line) ∷
     [])
 
 -- bytes that every answer fits in
@@ -82,14 +92,14 @@ abbrev pub room_max : ℕ
 room_max = text_max
 
 -- the text that stands in the buffer as it is, a fault by its two lines
-unfoldable pub told_of : Status → ℕ → List ℕ → List ℕ
-told_of (Ok tt) len old = take len old
-told_of (Err r) len old = fault_bytes (Err r)
+unfoldable pub told_of : Checked ℕ → List ℕ → List ℕ
+told_of (Ok len) old = take len old
+told_of (Err r) old = fault_bytes r
 
 -- what is told stands whole at the buffer's start, and the bytes beyond it are the old ones
 pub record Tells (a : Checked ℕ) (old new : List ℕ) (r : ℕ) : Type 0 where
-  pub count : r ≡ length (told_of a.status a.len old)
-  pub bytes : new ≡ told_of a.status a.len old ++ drop r old
+  pub count : r ≡ length (told_of a old)
+  pub bytes : new ≡ told_of a old ++ drop r old
   pub small : r ≤ room_max
   pub inside : r ≤ length new
   pub whole : r ≡ length (take r new)

@@ -1,9 +1,9 @@
 // What a call on the table of rooms is answered with.
-ghost use Rattle.std.specs.Prelude.{◌≡◌, ◌≤◌, length};
-ghost use Rattle.faults.specs.Answer.{refused, Leaves};
+ghost use Rattle.std.specs.Prelude.{◌≡◌, ◌≤◌, length, Ok, Err, MatchResult};
+ghost use Rattle.faults.specs.Answer.{Leaves};
 ghost use Rattle.writing.specs.Wrote.{Wrote};
 ghost use Rattle.result_form.specs.ResultShows.{show_result};
-ghost use Rattle.room_form.specs.Table.{room_at};
+ghost use Rattle.room_form.specs.Table.{room_at, visit_in};
 ghost use Rattle.room_form.specs.Calls.{lowest_free, open_status, next_visit, opened, held_status, after_step};
 ghost use Rattle.room_form.specs.Calls.{stepped, closed};
 ghost use Rattle.answers.specs.Answers.{room_max};
@@ -13,35 +13,43 @@ ghost use Rattle.answers.specs.Calls.{call_status, call_text, call_table};
 use crate::ROOM;
 use arguments::words::first_word;
 use arguments::{Shown, read_of, shown_of};
-use faults::{Status, Written};
+use faults::Checked;
 use requests::Call;
 use writing::put_count_line;
 
+// Where they are not good.
+const NOT_SHOWN: Shown = Shown {
+    slot: 0,
+    visit: 0,
+    room: 0,
+};
+
 // What `step SLOT VISIT` and `close SLOT VISIT` are told.
+#[tactic(auto, unfolding(crate::specs::Calls::shown_asked))]
 fn shown_asked(words: &[u8]) -> Shown
     ensures { result ≡ shown_asked words.now }
 {
-    let word = first_word(words);
-    let next = word.next;
-    shown_of(&words[next..])
+    let (_, asked) = first_word(words);
+    shown_of(asked).unwrap_or(NOT_SHOWN)
 }
 
 // What `reading SLOT VISIT ROOM` is told.
+#[tactic(auto, unfolding(crate::specs::Calls::read_asked))]
 fn read_asked(words: &[u8]) -> Shown
     ensures { result ≡ read_asked words.now }
 {
-    let word = first_word(words);
-    let next = word.next;
-    read_of(&words[next..])
+    let (_, asked) = first_word(words);
+    read_of(asked).unwrap_or(NOT_SHOWN)
 }
 
 // An answer of no text.
-fn silent(status: Status) -> Written
-    ensures { result ≡ refused status }
+fn silent(status: Checked<()>) -> Checked<usize>
+    ensures { MatchResult status (λ u. result ≡ Ok 0) (λ r. result ≡ Err r) }
 {
-    Written { status, len: 0 }
+    status.map(|()| 0)
 }
 
+#[tactic(auto, unfolding(crate::specs::Calls::opened_bytes))]
 fn put_opened(out: &mut [u8], slot: u64, visit: u64) -> usize
     ensures { Wrote out.old out.new 0 result (opened_bytes slot visit) }
 {
@@ -49,25 +57,18 @@ fn put_opened(out: &mut [u8], slot: u64, visit: u64) -> usize
     put_count_line(out, a, b"visit=", visit)
 }
 
-fn reply_open(table: &mut [u8], text: &[u8], out: &mut [u8]) -> Written
+fn reply_open(table: &mut [u8], text: &[u8], out: &mut [u8]) -> Checked<usize>
     requires { room_max ≤ length out.old }
     ensures answer { Leaves (open_status table.old text.now)
         (opened_bytes (lowest_free table.old) (next_visit table.old)) out.old
         out.new result }
     ensures table { table.new ≡ opened table.old text.now }
 {
-    let r = rooms::open(table, text);
-    let status = r.status;
-    match status {
-        Status::Refused(f, line) => silent(Status::Refused(f, line)),
-        Status::Done => Written {
-            status: Status::Done,
-            len: put_opened(out, r.slot as u64, r.visit),
-        },
-    }
+    let opened = rooms::open(table, text)?;
+    Ok(put_opened(out, opened.slot as u64, opened.visit))
 }
 
-fn reply_step(table: &mut [u8], words: &[u8], out: &mut [u8]) -> Written
+fn reply_step(table: &mut [u8], words: &[u8], out: &mut [u8]) -> Checked<usize>
     ensures answer { Leaves
         (held_status table.old (shown_asked words.now).slot
         (shown_asked words.now).visit)
@@ -82,22 +83,21 @@ fn reply_step(table: &mut [u8], words: &[u8], out: &mut [u8]) -> Written
 }
 
 // The buffer that the reading has is ROOM bytes long.
-fn reply_reading(table: &[u8], words: &[u8], out: &mut [u8]) -> Written
+fn reply_reading(table: &[u8], words: &[u8], out: &mut [u8]) -> Checked<usize>
     requires { room_max ≤ length out.old }
     ensures { Leaves
         (or_short
         (held_status table.now (read_asked words.now).slot (read_asked words.now).visit)
         (read_asked words.now).room
-        (show_result (room_at table.now (read_asked words.now).slot).reading))
-        (show_result (room_at table.now (read_asked words.now).slot).reading) out.old
+        (show_result (visit_in (room_at table.now (read_asked words.now).slot)).reading))
+        (show_result (visit_in (room_at table.now (read_asked words.now).slot)).reading) out.old
         out.new result }
 {
     let shown = read_asked(words);
-    let room = shown.room;
-    rooms::reading(table, shown.slot, shown.visit, &mut out[0..room])
+    rooms::reading(table, shown.slot, shown.visit, &mut out[..shown.room])
 }
 
-fn reply_close(table: &mut [u8], words: &[u8]) -> Status
+fn reply_close(table: &mut [u8], words: &[u8]) -> Checked<()>
     ensures answer { result
         ≡ held_status table.old (shown_asked words.now).slot
         (shown_asked words.now).visit }
@@ -109,7 +109,14 @@ fn reply_close(table: &mut [u8], words: &[u8]) -> Status
     rooms::close(table, shown.slot, shown.visit)
 }
 
-fn call_in(call: Call, table: &mut [u8], words: &[u8], text: &[u8], out: &mut [u8]) -> Written
+#[tactic(auto, unfolding(crate::specs::Calls::call_status, crate::specs::Calls::call_text, crate::specs::Calls::call_table))]
+fn call_in(
+    call: Call,
+    table: &mut [u8],
+    words: &[u8],
+    text: &[u8],
+    out: &mut [u8],
+) -> Checked<usize>
     requires { length out.old ≡ room_max }
     ensures answer { Leaves (call_status call table.old words.now text.now)
         (call_text call table.old words.now text.now) out.old
@@ -133,7 +140,7 @@ pub fn reply_call(
     words: &[u8],
     text: &[u8],
     out: &mut [u8; ROOM],
-) -> Written
+) -> Checked<usize>
     ensures answer { Leaves (call_status call table.old words.now text.now)
         (call_text call table.old words.now text.now) out.old
         out.new result }

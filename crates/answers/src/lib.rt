@@ -15,9 +15,11 @@ ghost use Rattle.answers.specs.Answers.{room_max, fault_bytes, line_max, Tells, 
 
 use crate::parts::hand_over;
 use arguments::words::first_word;
-use arguments::{Boxed, Deep, Told, box_of, deep_of, told_of};
+use arguments::{Deep, Told, box_of, deep_of, told_of};
 pub use calls::reply_call;
-use faults::{Fault, Status, Written};
+use faults::{Checked, Refusal};
+use jobs::Ends;
+use jobs::zero::zero_ends;
 use parts_end::end_job;
 use requests::Op;
 use sizes::TEXT;
@@ -27,64 +29,65 @@ use writing::{put_bytes, put_count_line};
 pub const ROOM: usize = TEXT;
 
 // The box of `image LO HI`.
-fn box_asked(words: &[u8]) -> Boxed
+#[tactic(auto, unfolding(crate::specs::Answers::box_asked))]
+fn box_asked(words: &[u8]) -> Ends
     ensures { result ≡ box_asked words.now }
 {
-    let word = first_word(words);
-    let next = word.next;
-    box_of(&words[next..])
+    let (_, asked) = first_word(words);
+    box_of(asked).unwrap_or(zero_ends())
 }
 
 // What `decide N LO HI KLO KHI` is told.
+#[tactic(auto, unfolding(crate::specs::Answers::told_asked))]
 fn told_asked(words: &[u8]) -> Told
     ensures { result ≡ told_asked words.now }
 {
-    let word = first_word(words);
-    let next = word.next;
-    told_of(&words[next..])
+    let (_, asked) = first_word(words);
+    told_of(asked).unwrap_or(Told {
+        n: 0,
+        x: zero_ends(),
+        k: zero_ends(),
+    })
 }
 
 // What `halve DEPTH ROOM` is told.
+#[tactic(auto, using(crate::proofs::Asked::asked_few))]
 pub fn deep_asked(words: &[u8]) -> Deep
     ensures { DeepAsked result words.now }
 {
-    let word = first_word(words);
-    let next = word.next;
-    deep_of(&words[next..])
+    let (_, asked) = first_word(words);
+    deep_of(asked).unwrap_or(Deep { depth: 0, room: 0 })
 }
 
-fn reply_image(words: &[u8], text: &[u8], out: &mut [u8]) -> Written
-    ensures { Leaves (box_status text.now (box_asked words.now).ends)
-        (box_image text.now (box_asked words.now).ends) out.old out.new result }
+fn reply_image(words: &[u8], text: &[u8], out: &mut [u8]) -> Checked<usize>
+    ensures { Leaves (box_status text.now (box_asked words.now))
+        (box_image text.now (box_asked words.now)) out.old out.new result }
 {
-    let asked = box_asked(words);
-    let x = asked.ends;
-    step_text::image_in(text, x, out)
+    step_text::image_in(text, box_asked(words), out)
 }
 
-fn reply_decide(words: &[u8], out: &mut [u8]) -> Written
+#[tactic(auto, unfolding(crate::specs::Answers::told_status, crate::specs::Answers::told_text))]
+fn reply_decide(words: &[u8], out: &mut [u8]) -> Checked<usize>
     ensures { Leaves (told_status words.now) (told_text words.now) out.old
         out.new result }
 {
     let told = told_asked(words);
-    let x = told.x;
-    let k = told.k;
-    step_text::decide(told.n, x, k, out)
+    step_text::decide(told.n, told.x, told.k, out)
 }
 
 // `parts L1,L2,..` answers as `job` does.
-fn reply_parts(words: &[u8], text: &[u8], out: &mut [u8]) -> Written
+fn reply_parts(words: &[u8], text: &[u8], out: &mut [u8]) -> Checked<usize>
     ensures { Leaves (job_status text.now) (job_text text.now) out.old
         out.new result }
 {
-    let word = first_word(words);
-    let next = word.next;
-    let p = hand_over(&words[next..], text);
+    let (_, lengths) = first_word(words);
+    let p = hand_over(lengths, text);
     end_job(p, out)
 }
 
 // The words of a request say what is asked, with its arguments.
-pub fn reply(op: Op, words: &[u8], text: &[u8], out: &mut [u8]) -> Written
+#[tactic(auto, unfolding(crate::specs::Answers::status_of, crate::specs::Answers::text_of))]
+pub fn reply(op: Op, words: &[u8], text: &[u8], out: &mut [u8]) -> Checked<usize>
     ensures { Leaves (status_of op words.now text.now)
         (text_of op words.now text.now) out.old out.new result }
 {
@@ -99,32 +102,26 @@ pub fn reply(op: Op, words: &[u8], text: &[u8], out: &mut [u8]) -> Written
     }
 }
 
-fn put_fault(out: &mut [u8], f: Fault, line: u64) -> usize
-    ensures { Wrote out.old out.new 0 result (fault_bytes (Status.Refused f line)) }
+#[tactic(auto, unfolding(crate::specs::Answers::fault_bytes))]
+fn put_fault(out: &mut [u8], refusal: Refusal) -> usize
+    ensures { Wrote out.old out.new 0 result (fault_bytes refusal) }
 {
-    let number = faults::fault_number(f);
-    let a = put_count_line(out, 0, b"fault=", number);
-    put_count_line(out, a, b"line=", line)
+    let a = put_count_line(out, 0, b"fault=", u64::from(refusal.fault));
+    put_count_line(out, a, b"line=", refusal.line)
 }
 
-fn tell_in(a: Written, out: &mut [u8]) -> usize
+fn tell_in(a: Checked<usize>, out: &mut [u8]) -> usize
     requires { length out.old ≡ room_max }
     ensures { Tells a out.old out.new result }
 {
-    let status = a.status;
-    match status {
-        Status::Refused(f, line) => put_fault(out, f, line),
-        Status::Done => {
-            if a.len <= out.len() {
-                return a.len;
-            }
-            out.len()
-        }
+    match a {
+        Ok(len) => len.min(out.len()),
+        Err(refusal) => put_fault(out, refusal),
     }
 }
 
 // How many bytes of the buffer tell the answer that stands in it: a text as it is, a fault by two lines.
-pub fn tell(a: Written, out: &mut [u8; ROOM]) -> usize
+pub fn tell(a: Checked<usize>, out: &mut [u8; ROOM]) -> usize
     ensures { Tells a out.old out.new result }
 {
     tell_in(a, out)

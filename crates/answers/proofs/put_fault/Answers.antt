@@ -7,11 +7,8 @@ use Rattle.answers.proofs.put_fault.Goals as goal
 
 pub put_count_line-requires : goal.put_count_line-requires
 put_count_line-requires c =
-    let number = c.fault_number-number.result in
-    omega (arith, c.put_count_line-a.ensures.next, count-line-short fault_key number)
+    omega (arith, c.put_count_line-a.ensures.next, count-line-short fault_key c.from.result)
 
 pub returns : goal.returns
 unfolding fault_bytes
-returns c =
-    wrote-line _ _ (rw c.fault_number-number.ensures at c.put_count_line-a.ensures)
-    (wrote-last _ c.put_count_line.ensures)
+returns c = wrote-line _ _ (rw c.from.ensures at c.put_count_line-a.ensures) (wrote-last _ c.put_count_line.ensures)

@@ -9,5 +9,5 @@ use Rattle.answers.proofs.reply_parts.Goals as goal
 pub returns : goal.returns
 unfolding job_status job_text
 returns c =
-    written-as (end_of c.hand_over-p.result) (ap end_of c.hand_over-p.ensures ∙ text-whole c.args.text.now)
+    written-as (ap end_of c.hand_over-p.ensures ∙ text-whole c.args.text.now)
     c.end_job.ensures

@@ -1,43 +1,39 @@
-use Prim.Native.Nat.{◌+◌}
-use native.Mathlib.Omega.{arith}
-use mathlib.Core.Path.{ap, ◌∙◌}
-use lib.ListN.{length}
-use lib.Seq.{take_all}
-use Rattle.job_parts.specs.Parts.{begun, bytes_taken}
-use Rattle.job_parts.proofs.Cutting.{handed-on}
+-- `answers::parts::hand_over` meets its contract.
+use Rattle.std.proofs.Common.{◌≡◌, ℕ, List, [], ◌++◌, true, refl, sym, ap, ◌∙◌, append_assoc}
+use Rattle.job_parts.specs.declared.Parts.{Parts}
+use Rattle.job_parts.specs.declared.Taken.{Taken}
+use Rattle.job_parts.specs.Limits.{fits}
+use Rattle.job_parts.specs.Parts.{begun, bytes_taken, part_taken}
+use Rattle.job_parts.proofs.Whole.{text-fits, bytes-append}
 use Rattle.answers.proofs.parts.hand_over.Goals as goal
 
-pub loop-at-init : goal.loop-at-init
+taken-fits : (p : Parts) (part : List ℕ) → fits p ≡ true → (part_taken p part).parts ≡ bytes_taken p part
+unfolding part_taken
+taken-fits p part e = rw e
+
+handed-on : (done part : List ℕ) {p : Parts} {r : Taken} → p ≡ bytes_taken begun done → r ≡ part_taken p part
+    → r.parts ≡ bytes_taken begun (done ++ part)
+handed-on done part e w =
+    ap (λ (s : Taken). s.parts) w
+    ∙ taken-fits _ part (ap fits e ∙ text-fits done)
+    ∙ ap (λ (q : Parts). bytes_taken q part) e
+    ∙ bytes-append begun done part
+
+pub loop-length-init : goal.loop-length-init
 unfolding bytes_taken
-loop-at-init c = (omega arith, c.begin-p.ensures)
+loop-length-init c = ([], refl, c.begin-p.ensures)
 
-pub overflow_sub-text : goal.overflow_sub-text
-overflow_sub-text c = c.loop-at.invariant.0
-
-pub overflow_add-to : goal.overflow_add-to
-overflow_add-to c =
-    record { fits = omega (arith, c.part_length.ensures, c.loop-at.invariant.0, c.well_formed.1.0.0) }
-
-pub slice_bounds-take-end : goal.slice_bounds-take-end
-slice_bounds-take-end c = omega (arith, c.part_length.ensures, c.loop-at.invariant.0)
-
-pub loop-at-smaller : goal.loop-at-smaller
-loop-at-smaller c =
-    omega (arith, c.loop-at-test.true, c.piece_end-end.ensures.after)
-
-pub loop-at-preserved : goal.loop-at-preserved
-loop-at-preserved c = (
-  omega (arith, c.part_length.ensures, c.loop-at.invariant.0),
-  handed-on c.args.text.now c.loop-at.from (c.loop-at.from + c.part_length.result) (omega arith)
-      c.loop-at.invariant.1 c.take-taken.ensures,
-)
-
-pub slice_bounds-take-start-2 : goal.slice_bounds-take-start-2
-slice_bounds-take-start-2 c = c.loop-at.invariant.0
+pub loop-length-preserved : goal.loop-length-preserved
+loop-length-preserved c =
+    let (done, split, taken) = c.loop-length.invariant in
+    let part = c.split_at.result.0.now in
+    let behind = c.split_at.result.1.now in (
+      done ++ part,
+      split ∙ ap (λ l. done ++ l) c.split_at.ensures.by_index.0 ∙ sym (append_assoc done part behind),
+      handed-on done part taken c.take.ensures,
+    )
 
 pub returns : goal.returns
 returns c =
-    let text = c.args.text.now in
-    handed-on text c.loop-at.from (length text) c.loop-at.invariant.0 c.loop-at.invariant.1
-    c.take-last.ensures
-    ∙ ap (bytes_taken begun) (take_all (length text) text (omega arith))
+    let (done, split, taken) = c.loop-length.invariant in
+    handed-on done _ taken c.take-2.ensures ∙ ap (bytes_taken begun) (sym split)
