@@ -1,9 +1,8 @@
--- What `batch` keeps of a run: places in its two blocks.
-use Rattle.std.specs.Prelude.{ℕ, ◌+◌, ◌≤◌, ◌≡◌}
+-- The sizes of what `batch` keeps of a run.
+use Rattle.std.specs.Prelude.{ℕ, ◌+◌}
 use Rattle.sizes.specs.Sizes.{text_max}
 use Rattle.requests.specs.Packets.{header_max}
 use Rattle.answers.specs.Answers.{room_max, line_max}
-use Rattle.batch.specs.declared.hand.Hand.{Hand}
 
 abbrev pub block_max : ℕ
 block_max = 65536
@@ -16,10 +15,3 @@ in_max = header_max + text_max + 1 + block_max
 -- behind a block of answers fits one more, with its line
 abbrev pub out_max : ℕ
 out_max = block_max + room_max + line_max
-
--- the bytes at hand are among n, and the answers that wait fill no more than a block
-abbrev pub InHand : Hand → ℕ → Type 0
-InHand h n = (h.at ≤ h.end) × (h.end ≤ n) × (h.used ≤ block_max)
-
-abbrev pub Nothing : Hand → Type 0
-Nothing h = (h.at ≡ 0) × (h.end ≡ 0) × (h.used ≡ 0)

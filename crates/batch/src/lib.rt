@@ -2,249 +2,155 @@
 // itself, or until they fill a block.
 #![tactic(auto)]
 
-mod hand;
 mod input;
-mod listed;
+mod output;
 mod refusals;
 
-ghost use Rattle.std.specs.Prelude.{◌+◌, ◌≤◌, ◌≡◌, length};
-ghost use Rattle.batch.specs.Hand.{in_max, out_max, InHand};
+ghost use Rattle.std.specs.Prelude.{◌-◌, IfOk};
+ghost use Rattle.listing.specs.Listing.{Readable};
+ghost use Rattle.requests.specs.Packets.{PlacesIn};
+ghost use Rattle.requests.specs.declared.packets.Seen.{Seen};
 
-use crate::hand::{BLOCK, Hand, add, going};
-use crate::input::{more, pass};
-use crate::listed::add_listing;
-use crate::refusals::bad_request;
+use crate::input::Input;
+use crate::output::Output;
+use crate::refusals::{at_end, bad_line, bad_text};
 use answers::{ROOM, deep_asked, reply, reply_call, tell};
-use digits::DIGITS;
+use faults::Checked;
 use halving::{LISTED, NUMBERS};
-use listing::list_text;
-use requests::packets::{HEADER, Packet, Seen, look};
-use requests::{Call, Op};
+use listing::{Listing, list_text, put_all};
+use requests::Named;
+use requests::packets::{Packet, Seen, look};
 use rooms::TABLE;
-use sizes::TEXT;
+use std::io;
 use std::io::{Read, Write};
 use streams::outcomes::Outcome;
 
-const IN: usize = HEADER + TEXT + 1 + BLOCK;
+const BLOCK: usize = 65536;
 
-const OUT: usize = BLOCK + ROOM + DIGITS + 1;
-
-// What is known of a block is its length.
-fn in_block() -> [u8; IN]
-    ensures { in_max ≡ length result }
-{
-    [0; IN]
-}
-
-fn out_block() -> [u8; OUT]
-    ensures { out_max ≡ length result }
-{
-    [0; OUT]
-}
-
-fn answer(op: Op, words: &[u8], text: &[u8], room: &mut [u8; ROOM]) -> usize
-    ensures { result ≤ length room.new }
-{
-    let a = reply(op, words, text, room);
-    tell(a, room)
-}
-
-fn answer_call(
-    call: Call,
-    table: &mut [u8],
-    words: &[u8],
-    text: &[u8],
-    room: &mut [u8; ROOM],
-) -> usize
-    ensures { result ≤ length room.new }
-{
-    let a = reply_call(call, table, words, text, room);
-    tell(a, room)
-}
-
-// The answer, n bytes of the room, is added once all of its request has come.
-fn finish<R: Read, W: Write>(
-    reader: &mut R,
-    writer: &mut W,
-    have: &mut [u8],
-    out: &mut [u8],
-    room: &[u8; ROOM],
-    h: Hand,
-    p: Packet,
-    n: usize,
-) -> Hand
-    requires in_hand { InHand h (length have.old) }
-    requires out_max_in_bounds { out_max ≤ length out.old }
-    requires to_bound { h.at + p.to ≤ h.end }
-    requires n_in_bounds { n ≤ length room.now }
-    ensures { InHand result (length have.old) }
-{
-    let next = pass(
-        reader,
-        writer,
-        have,
-        out,
-        going(h.at + p.to, h.end, h.used),
-        p.passed,
-    );
-    if next.going {
-        return add(writer, out, next, room, n);
+// More of the input, once the answers are written.
+fn more<R: Read, W: Write>(input: &mut Input<R>, output: &mut Output<W>) -> Result<(), Outcome> {
+    output.write().map_err(Outcome::Unwritten)?;
+    let came = input.more().map_err(Outcome::Unread)?;
+    if came == 0 {
+        return Err(at_end(output, input.at_hand()));
     }
-    next
+    Ok(())
 }
 
-fn ask<R: Read, W: Write>(
-    reader: &mut R,
-    writer: &mut W,
-    have: &mut [u8],
-    out: &mut [u8],
-    room: &mut [u8; ROOM],
-    h: Hand,
-    op: Op,
+// A packet is answered: its bytes, and those of its text that are not kept, are passed over.
+fn pass<R: Read, W: Write>(
+    input: &mut Input<R>,
+    output: &mut Output<W>,
     p: Packet,
-) -> Hand
-    requires in_hand { InHand h (length have.old) }
-    requires out_max_in_bounds { out_max ≤ length out.old }
-    requires words_le_from { (p.words ≤ p.from) × (p.from ≤ p.to) × (h.at + p.to ≤ h.end) }
-    ensures { InHand result (length have.old) }
-{
-    let at = h.at;
-    let words = at + p.words;
-    let from = at + p.from;
-    let to = at + p.to;
-    let n = answer(op, &have[at..words], &have[from..to], room);
-    finish(reader, writer, have, out, room, h, p, n)
-}
-
-// The same of a call on the table of rooms.
-fn ask_call<R: Read, W: Write>(
-    reader: &mut R,
-    writer: &mut W,
-    have: &mut [u8],
-    out: &mut [u8],
-    room: &mut [u8; ROOM],
-    table: &mut [u8],
-    h: Hand,
-    call: Call,
-    p: Packet,
-) -> Hand
-    requires in_hand { InHand h (length have.old) }
-    requires out_max_in_bounds { out_max ≤ length out.old }
-    requires words_le_from { (p.words ≤ p.from) × (p.from ≤ p.to) × (h.at + p.to ≤ h.end) }
-    ensures { InHand result (length have.old) }
-{
-    let at = h.at;
-    let words = at + p.words;
-    let from = at + p.from;
-    let to = at + p.to;
-    let n = answer_call(call, table, &have[at..words], &have[from..to], room);
-    finish(reader, writer, have, out, room, h, p, n)
-}
-
-// The same of a listing, into a list of as many numbers as the request gives it room for.
-fn ask_list<R: Read, W: Write>(
-    reader: &mut R,
-    writer: &mut W,
-    have: &mut [u8],
-    out: &mut [u8],
-    h: Hand,
-    p: Packet,
-    depth: i64,
-    list: &mut [i64],
-) -> Hand
-    requires in_hand { InHand h (length have.old) }
-    requires out_max_in_bounds { out_max ≤ length out.old }
-    requires words_le_from { (p.words ≤ p.from) × (p.from ≤ p.to) × (h.at + p.to ≤ h.end) }
-    ensures { InHand result (length have.old) }
-{
-    let from = h.at + p.from;
-    let to = h.at + p.to;
-    let l = list_text(&have[from..to], depth, list);
-    let next = pass(
-        reader,
-        writer,
-        have,
-        out,
-        going(to, h.end, h.used),
-        p.passed,
-    );
-    if next.going {
-        return add_listing(writer, out, next, l, list);
+) -> Result<(), Outcome> {
+    input.pass(p.to as u64);
+    let left = input.pass(p.passed);
+    if left == 0 {
+        return Ok(());
     }
-    next
+    output.write().map_err(Outcome::Unwritten)?;
+    if !input.skip(left).map_err(Outcome::Unread)? {
+        return Err(bad_text(output));
+    }
+    Ok(())
 }
 
+// The pieces of a listing behind the answers that wait. (Of the pieces that are measured none is kept.)
+fn add_boxes<W: Write>(output: &mut Output<W>, l: Listing, list: &[i64]) -> io::Result<()>
+    requires { Readable l list.now }
+{
+    output.add_head(l, put_all(&mut [0], l, list))?;
+    for i in 0..l.boxes {
+        output.add_box(l.n, list, i)?;
+    }
+    Ok(())
+}
+
+fn add_listing<W: Write>(
+    output: &mut Output<W>,
+    l: Checked<Listing>,
+    list: &[i64],
+) -> io::Result<()>
+    requires { IfOk l (λ ok. Readable ok list.now) }
+{
+    match l {
+        Ok(l) => add_boxes(output, l, list),
+        Err(refusal) => {
+            let mut room = [0u8; ROOM];
+            let n = tell(Err(refusal), &mut room);
+            output.add(&room[..n])
+        }
+    }
+}
+
+// A listing, into a list of as many numbers as the request gives it room for.
 fn ask_boxes<R: Read, W: Write>(
-    reader: &mut R,
-    writer: &mut W,
-    have: &mut [u8],
-    out: &mut [u8],
-    h: Hand,
+    input: &mut Input<R>,
+    output: &mut Output<W>,
     p: Packet,
-) -> Hand
-    requires in_hand { InHand h (length have.old) }
-    requires out_max_in_bounds { out_max ≤ length out.old }
-    requires words_le_from { (p.words ≤ p.from) × (p.from ≤ p.to) × (h.at + p.to ≤ h.end) }
-    ensures { InHand result (length have.old) }
+) -> Result<(), Outcome>
+    requires { PlacesIn (Seen.Whole p) (input.old.end - input.old.at) }
 {
-    let at = h.at;
-    let words = at + p.words;
-    let deep = deep_asked(&have[at..words]);
-    let numbers = LISTED * deep.room;
-    let mut list = [0i64; NUMBERS];
-    ask_list(
-        reader,
-        writer,
-        have,
-        out,
-        h,
-        p,
-        deep.depth,
-        &mut list[0..numbers],
-    )
+    let have = input.at_hand();
+    let deep = deep_asked(&have[..p.words]);
+    let mut numbers = [0i64; NUMBERS];
+    let list = &mut numbers[..LISTED * deep.room];
+    let l = list_text(&have[p.from..p.to], deep.depth, list);
+    pass(input, output, p)?;
+    add_listing(output, l, list).map_err(Outcome::Unwritten)
+}
+
+// The answer is added once all of its request has come.
+fn ask<R: Read, W: Write>(
+    input: &mut Input<R>,
+    output: &mut Output<W>,
+    room: &mut [u8; ROOM],
+    table: &mut [u8],
+    p: Packet,
+) -> Result<(), Outcome>
+    requires { PlacesIn (Seen.Whole p) (input.old.end - input.old.at) }
+{
+    let have = input.at_hand();
+    let words = &have[..p.words];
+    let text = &have[p.from..p.to];
+    let a = match p.named {
+        Named::Is(op) => reply(op, words, text, room),
+        Named::Calls(call) => reply_call(call, table, words, text, room),
+        Named::Lists => return ask_boxes(input, output, p),
+    };
+    let n = tell(a, room);
+    pass(input, output, p)?;
+    output.add(&room[..n]).map_err(Outcome::Unwritten)
 }
 
 // What the bytes at hand ask for next.
 fn turn<R: Read, W: Write>(
-    reader: &mut R,
-    writer: &mut W,
-    have: &mut [u8],
-    out: &mut [u8],
+    input: &mut Input<R>,
+    output: &mut Output<W>,
     room: &mut [u8; ROOM],
     table: &mut [u8],
-    h: Hand,
-) -> Hand
-    requires in_hand { InHand h (length have.old) }
-    requires out_max_in_bounds { out_max ≤ length out.old }
-    ensures { InHand result (length have.old) }
-{
-    let at = h.at;
-    let end = h.end;
-    let p = look(&have[at..end]);
-    let seen = p.seen;
-    match seen {
-        Seen::More => more(reader, writer, have, out, h),
-        Seen::Bad => bad_request(writer, out, h),
-        Seen::Ask(op) => ask(reader, writer, have, out, room, h, op, p),
-        Seen::List => ask_boxes(reader, writer, have, out, h, p),
-        Seen::Call(call) => ask_call(reader, writer, have, out, room, table, h, call, p),
+) -> Result<(), Outcome> {
+    match look(input.at_hand()) {
+        Seen::More => more(input, output),
+        Seen::Bad => {
+            output.write().map_err(Outcome::Unwritten)?;
+            Err(bad_line(output))
+        }
+        Seen::Whole(p) => ask(input, output, room, table, p),
     }
 }
 
-// Nothing says that the input ends, so the turns are counted down from a number that no run uses up. The room of an
+// Nothing says that the input ends, so the turns are counted, up to a number that no run comes to. The room of an
 // answer is made once, so that no request clears it, and so is the table of rooms, of which all are free.
 pub fn all<R: Read, W: Write>(reader: &mut R, writer: &mut W) -> Outcome {
-    let mut have = in_block();
-    let mut out = out_block();
+    let mut input = Input::new(reader);
+    let mut output = Output::new(writer);
     let mut room = [0u8; ROOM];
     let mut table = [0u8; TABLE];
-    let mut h = going(0, 0, 0);
-    let mut turns = u64::MAX;
-    while turns > 0 && h.going {
-        h = turn(
-            reader, writer, &mut have, &mut out, &mut room, &mut table, h,
-        );
-        turns -= 1;
+    for _ in 0..u64::MAX {
+        if let Err(outcome) = turn(&mut input, &mut output, &mut room, &mut table) {
+            return outcome;
+        }
     }
-    h.outcome
+    Outcome::Answered
 }
