@@ -3,23 +3,22 @@ ghost use Rattle.listing.specs.Lines.{EntryIn};
 ghost use Rattle.listing.specs.Listing.{Readable};
 
 use answers::{ROOM, tell};
-use faults::{Status, Written};
+use faults::Refusal;
 use listing::{Listing, put_box, put_head};
 use std::io;
 use std::io::Write;
-use streams::put;
 
 // A fault's two lines.
-pub fn print_fault<W: Write>(out: &mut W, status: Status) -> io::Result<()> {
+pub fn print_fault<W: Write>(out: &mut W, refusal: Refusal) -> io::Result<()> {
     let mut room = [0u8; ROOM];
-    let n = tell(Written { status, len: 0 }, &mut room);
-    put(out, &room[0..n])
+    let n = tell(Err(refusal), &mut room);
+    out.write_all(&room[..n])
 }
 
 fn print_head<W: Write>(out: &mut W, l: Listing) -> io::Result<()> {
     let mut piece = [0u8; ROOM];
     let n = put_head(&mut piece, 0, l);
-    put(out, &piece[0..n])
+    out.write_all(&piece[..n])
 }
 
 fn print_box<W: Write>(out: &mut W, n: usize, list: &[i64], i: usize) -> io::Result<()>
@@ -27,17 +26,15 @@ fn print_box<W: Write>(out: &mut W, n: usize, list: &[i64], i: usize) -> io::Res
 {
     let mut piece = [0u8; ROOM];
     let n = put_box(&mut piece, 0, n, list, i);
-    put(out, &piece[0..n])
+    out.write_all(&piece[..n])
 }
 
 pub fn print<W: Write>(out: &mut W, l: Listing, list: &[i64]) -> io::Result<()>
     requires { Readable l list.now }
 {
     print_head(out, l)?;
-    let mut i = 0;
-    while i < l.boxes {
+    for i in 0..l.boxes {
         print_box(out, l.n, list, i)?;
-        i += 1;
     }
     Ok(())
 }
