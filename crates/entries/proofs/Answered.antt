@@ -11,6 +11,7 @@ use Rattle.faults.specs.Checks.{and_then}
 use Rattle.faults.specs.Answer.{answer_of}
 use Rattle.faults.specs.Checked.{Status, status_of}
 use Rattle.faults.proofs.Laws.{both-done}
+use Rattle.checks.specs.Answered.{job_in, result_in}
 use Rattle.checks.proofs.CheckResultLaws.{sound}
 use Rattle.job_form.specs.JobForm.{read_job}
 use Rattle.job_form.proofs.Trips as job-trips
@@ -32,13 +33,13 @@ first-only (Err r) next h = refl
 
 -- "the written text is longer than the lent buffer": else a writer's status is that of the values
 long-enough : (st : Status) (t old : List ℕ) → (st ≡ Ok tt → length t ≤ length old)
-    → (answer_of st old t).status ≡ st
+    → status_of (answer_of st old t) ≡ st
 unfolding answer_of
 long-enough (Ok tt) t old h = rw (le-ltb (length old) (length t) (h refl)) refl
 long-enough (Err r) t old h = refl
 
 module _ (t : List ℕ) where
-  pub job-status : job_status t ≡ (status_of (read_job t))
+  pub job-status : job_status t ≡ status_of (read_job t)
   unfolding job_status
   job-status = first-only (status_of (read_job t)) _ (job.read-checked t)
 
@@ -50,7 +51,7 @@ module _ (t : List ℕ) where
   unfolding job_text
   job-short e = job-trips.job-short (job_in (read_job t)) (job.read-checked t e)
 
-  pub result-status : result_status t ≡ (status_of (read_result t))
+  pub result-status : result_status t ≡ status_of (read_result t)
   unfolding result_status
   result-status = first-only (status_of (read_result t)) _ (result.read-checked t)
 
@@ -63,7 +64,7 @@ module _ (t : List ℕ) where
   result-short e =
       result-trips.result-short (result_in (read_result t)) (sound (result_in (read_result t)) (result.read-checked t e)).few
 
-  pub solve-status : solve_status t ≡ (status_of (read_job t))
+  pub solve-status : solve_status t ≡ status_of (read_job t)
   unfolding solve_status run_status
   solve-status =
       first-only (status_of (read_job t)) _
@@ -76,11 +77,11 @@ module _ (t : List ℕ) where
 
   -- a buffer of as many bytes as a text may have is never too short
   module _ (old : List ℕ) (room : text_max ≤ length old) where
-    pub job-fits : (answer_of (job_status t) old (job_text t)).status ≡ (status_of (read_job t))
+    pub job-fits : status_of (answer_of (job_status t) old (job_text t)) ≡ status_of (read_job t)
     job-fits = rw job-status (long-enough _ _ old (λ e. le_trans (job-short e) room))
 
-    pub result_fits : (answer_of (result_status t) old (result_text t)).status ≡ (status_of (read_result t))
+    pub result_fits : status_of (answer_of (result_status t) old (result_text t)) ≡ status_of (read_result t)
     result_fits = rw result-status (long-enough _ _ old (λ e. le_trans (result-short e) room))
 
-    pub solve-fits : (answer_of (solve_status t) old (solve_text t)).status ≡ (status_of (read_job t))
+    pub solve-fits : status_of (answer_of (solve_status t) old (solve_text t)) ≡ status_of (read_job t)
     solve-fits = rw solve-status (long-enough _ _ old (λ e. le_trans (solve-short e) room))

@@ -1,7 +1,7 @@
 -- Demand 1 in document 01's numbers: what each public entry tells of a fault, its number and its line, by the
 -- definitions that its contract cites. Only statements, each proved by one line from the files beside this one. `told`
 -- is `number_of` and `line_of` of a status, 0 and 0 where there is no fault.
-use mathlib.Core.Path.{◌≡◌, ap, ◌∙◌}
+use mathlib.Core.Path.{◌≡◌, ap, sym, ◌∙◌}
 use mathlib.Core.List.{List, [], ◌++◌}
 use mathlib.Core.Logic.{◌↔◌}
 use Prim.Native.Nat.{ℕ, ◌≤◌, ◌<◌}
@@ -14,7 +14,7 @@ use Rattle.jobs.specs.declared.Ends.{Ends}
 use Rattle.jobs.specs.declared.Job.{Job}
 use Rattle.jobs.specs.declared.Result.{Result}
 use Rattle.faults.specs.Answer.{Leaves}
-use Rattle.faults.specs.Checked.{Written, status_of, Checked}
+use Rattle.faults.specs.Checked.{Checked, status_of}
 use Rattle.one_step.specs.OneStep.{gives_image, gives_move}
 use Rattle.halving.specs.Halving.{halve_status}
 use Rattle.run.specs.Job.{run_job}
@@ -38,45 +38,45 @@ use Rattle.entries.proofs.Texts as texts
 
 -- ---- job_read::read_job, result_read::read_result
 -- 1 for a text over 4,096 bytes (P10), and no other text; "Fault 1 comes first", with line 0
-pub read-job-long : (t : List ℕ) → ((told (status_of (read_job t))).number ≡ 1) ↔ (text_max < length t)
+pub read-job-long : (t : List ℕ) → ((told (read_job t)).number ≡ 1) ↔ (text_max < length t)
 read-job-long = texts.job-long
 
-pub read-job-first : (t : List ℕ) → text_max < length t → told (status_of (read_job t)) ≡ tell 1 0
+pub read-job-first : (t : List ℕ) → text_max < length t → told (read_job t) ≡ tell 1 0
 read-job-first = texts.job-long-told
 
-pub read-result-long : (t : List ℕ) → ((told (status_of (read_result t))).number ≡ 1) ↔ (text_max < length t)
+pub read-result-long : (t : List ℕ) → ((told (read_result t)).number ≡ 1) ↔ (text_max < length t)
 read-result-long = texts.result-long
 
-pub read-result-first : (t : List ℕ) → text_max < length t → told (status_of (read_result t)) ≡ tell 1 0
+pub read-result-first : (t : List ℕ) → text_max < length t → told (read_result t) ≡ tell 1 0
 read-result-first = texts.result-long-told
 
 -- "Empty text: 2, line 1."
-pub read-job-empty : told (read_job []).status ≡ tell 2 1
+pub read-job-empty : told (read_job []) ≡ tell 2 1
 read-job-empty = texts.job-empty
 
-pub read-result-empty : told (read_result []).status ≡ tell 2 1
+pub read-result-empty : told (read_result []) ≡ tell 2 1
 read-result-empty = texts.result-empty
 
 -- "A fault returns its number and a line counted from 1": every fault of a reader but 1
-pub read-job-line : (t : List ℕ) → 1 < (told (status_of (read_job t))).number → 1 ≤ (told (status_of (read_job t))).line
+pub read-job-line : (t : List ℕ) → 1 < (told (read_job t)).number → 1 ≤ (told (read_job t)).line
 read-job-line = texts.job-line
 
-pub read-result-line : (t : List ℕ) → 1 < (told (status_of (read_result t))).number → 1 ≤ (told (status_of (read_result t))).line
+pub read-result-line : (t : List ℕ) → 1 < (told (read_result t)).number → 1 ≤ (told (read_result t)).line
 read-result-line = texts.result-line
 
 -- ---- run::run
 -- "Values handed over without text get the same checks in the same line order": the first row of the table that is
 -- given, 0 and 0 where none is
-pub run : (j : Job) → told (status_of (run_job j)) ≡ first_given (job_rows j)
-run j = ap told (faults.run-status j) ∙ faults.job-first j
+pub run : (j : Job) → told (run_job j) ≡ first_given (job_rows j)
+run j = sym (faults.told-status (run_job j)) ∙ ap told (faults.run-status j) ∙ faults.job-first j
 
 -- ---- one_step::image, one_step::decide
 -- P7: "A box handed in is checked like a job's lo and hi, but with line 0", after the job's own
-pub image : (j : Job) (x : Ends) → told (status_of (gives_image j x)) ≡ first_given (image_rows j x)
+pub image : (j : Job) (x : Ends) → told (gives_image j x) ≡ first_given (image_rows j x)
 image = faults.image-first
 
 -- P7: "3 for that n, first; 4 beyond the image's range, then 5 for its ends crossed, after .. the box's own"
-pub decide : (n : ℕ) (x k : Ends) → told (status_of (gives_move n x k)) ≡ first_given (decide_rows n x k)
+pub decide : (n : ℕ) (x k : Ends) → told (gives_move n x k) ≡ first_given (decide_rows n x k)
 decide = faults.decide-first
 
 -- ---- halving::halve, of a list of `room` numbers
@@ -94,73 +94,75 @@ take_part = parts.take-first
 -- and a buffer with the bytes old
 -- "When writing, faults of the values come before 7."
 pub write-job : (j : Job) (old new : List ℕ) (a : Checked ℕ) → Leaves (check_job j) (job_bytes j) old new a
-    → told a.status ≡ or_else (first_given (job_rows j)) (short_buffer old (job_bytes j))
+    → told a ≡ or_else (first_given (job_rows j)) (short_buffer old (job_bytes j))
 write-job j old new a leaves = rw (← faults.job-first j) (faults.answer-told leaves)
 
 pub write-result : (r : Result) (old new : List ℕ) (a : Checked ℕ) → Leaves (check_result r) (show_result r) old new a
-    → told a.status ≡ or_else (first_given (result_rows r)) (short_buffer old (show_result r))
+    → told a ≡ or_else (first_given (result_rows r)) (short_buffer old (show_result r))
 write-result r old new a leaves = rw (← faults.result-first r) (faults.answer-told leaves)
 
 -- "7 | the written text is longer than the lent buffer": exactly then, where the values are right
 pub write-job-short : (j : Job) (old new : List ℕ) (a : Checked ℕ) → Leaves (check_job j) (job_bytes j) old new a
-    → ((told a.status).number ≡ 7) ↔ (((told (check_job j)).number ≡ 0) × (length old < length (job_bytes j)))
+    → ((told a).number ≡ 7) ↔ (((told (check_job j)).number ≡ 0) × (length old < length (job_bytes j)))
 write-job-short j old new a leaves = faults.answer-seven leaves (faults.job-values j)
 
 pub write-result-short : (r : Result) (old new : List ℕ) (a : Checked ℕ)
     → Leaves (check_result r) (show_result r) old new a
-    → ((told a.status).number ≡ 7) ↔ (((told (check_result r)).number ≡ 0) × (length old < length (show_result r)))
+    → ((told a).number ≡ 7) ↔ (((told (check_result r)).number ≡ 0) × (length old < length (show_result r)))
 write-result-short r old new a leaves = faults.answer-seven leaves (faults.result-values r)
 
 -- ---- desk::solve, desk::rewrite_job, desk::rewrite_result: the reader's fault, and 7 exactly where it has none and
 -- the buffer is too short
 module _ (t old new : List ℕ) (a : Checked ℕ) where
   pub solve : Leaves (solve_status t) (solve_text t) old new a
-      → told a.status ≡ or_else (told (status_of (read_job t))) (short_buffer old (solve_text t))
-  solve leaves = faults.answer-told (rw (solve-status t) at leaves)
+      → told a ≡ or_else (told (read_job t)) (short_buffer old (solve_text t))
+  solve leaves = faults.of-answer (read_job t) (rw (solve-status t) at leaves)
 
   pub solve-short : Leaves (solve_status t) (solve_text t) old new a
-      → ((told a.status).number ≡ 7) ↔ (((told (status_of (read_job t))).number ≡ 0) × (length old < length (solve_text t)))
-  solve-short leaves = faults.answer-seven (rw (solve-status t) at leaves) (texts.job-not-seven t)
+      → ((told a).number ≡ 7) ↔ (((told (read_job t)).number ≡ 0) × (length old < length (solve_text t)))
+  solve-short leaves = faults.seven-exactly (read_job t) (rw (solve-status t) at leaves) (texts.job-not-seven t)
 
   pub rewrite-job : Leaves (job_status t) (job_text t) old new a
-      → told a.status ≡ or_else (told (status_of (read_job t))) (short_buffer old (job_text t))
-  rewrite-job leaves = faults.answer-told (rw (job-status t) at leaves)
+      → told a ≡ or_else (told (read_job t)) (short_buffer old (job_text t))
+  rewrite-job leaves = faults.of-answer (read_job t) (rw (job-status t) at leaves)
 
   pub rewrite-job-short : Leaves (job_status t) (job_text t) old new a
-      → ((told a.status).number ≡ 7) ↔ (((told (status_of (read_job t))).number ≡ 0) × (length old < length (job_text t)))
-  rewrite-job-short leaves = faults.answer-seven (rw (job-status t) at leaves) (texts.job-not-seven t)
+      → ((told a).number ≡ 7) ↔ (((told (read_job t)).number ≡ 0) × (length old < length (job_text t)))
+  rewrite-job-short leaves =
+      faults.seven-exactly (read_job t) (rw (job-status t) at leaves) (texts.job-not-seven t)
 
   pub rewrite-result : Leaves (result_status t) (result_text t) old new a
-      → told a.status ≡ or_else (told (status_of (read_result t))) (short_buffer old (result_text t))
-  rewrite-result leaves = faults.answer-told (rw (result-status t) at leaves)
+      → told a ≡ or_else (told (read_result t)) (short_buffer old (result_text t))
+  rewrite-result leaves = faults.of-answer (read_result t) (rw (result-status t) at leaves)
 
   pub rewrite-result-short : Leaves (result_status t) (result_text t) old new a
-      → ((told a.status).number ≡ 7)
-      ↔ (((told (status_of (read_result t))).number ≡ 0) × (length old < length (result_text t)))
-  rewrite-result-short leaves = faults.answer-seven (rw (result-status t) at leaves) (texts.result-not-seven t)
+      → ((told a).number ≡ 7)
+      ↔ (((told (read_result t)).number ≡ 0) × (length old < length (result_text t)))
+  rewrite-result-short leaves =
+      faults.seven-exactly (read_result t) (rw (result-status t) at leaves) (texts.result-not-seven t)
 
 -- ---- sentences::explain_job, sentences::explain_result: no word where the reader finds no fault, and the buffer as it
 -- was; a sentence where it finds one, whole in any buffer of 256 bytes, and what lies behind it as it was
 module _ (t old new : List ℕ) (r : ℕ) where
-  pub explain-job-none : Explains (found_in (status_of (read_job t))) old new r → (told (status_of (read_job t))).number ≡ 0
+  pub explain-job-none : Explains (found_in (status_of (read_job t))) old new r → (told (read_job t)).number ≡ 0
       → (r ≡ 0) × (new ≡ old)
-  explain-job-none = explained.no-fault (status_of (read_job t))
+  explain-job-none = explained.no-fault (read_job t)
 
-  pub explain-job-some : Explains (found_in (status_of (read_job t))) old new r → 0 < (told (status_of (read_job t))).number
+  pub explain-job-some : Explains (found_in (status_of (read_job t))) old new r → 0 < (told (read_job t)).number
       → 0 < r
-  explain-job-some = explained.a-fault (status_of (read_job t))
+  explain-job-some = explained.a-fault (read_job t)
 
   pub explain-job-whole : (e : Explains (found_in (status_of (read_job t))) old new r) → sentence_max ≤ length old
       → new ≡ slip_words e.slip ++ drop r old
   explain-job-whole = explained.whole
 
   pub explain-result-none : Explains (found_in (status_of (read_result t))) old new r
-      → (told (status_of (read_result t))).number ≡ 0 → (r ≡ 0) × (new ≡ old)
-  explain-result-none = explained.no-fault (status_of (read_result t))
+      → (told (read_result t)).number ≡ 0 → (r ≡ 0) × (new ≡ old)
+  explain-result-none = explained.no-fault (read_result t)
 
   pub explain-result-some : Explains (found_in (status_of (read_result t))) old new r
-      → 0 < (told (status_of (read_result t))).number → 0 < r
-  explain-result-some = explained.a-fault (status_of (read_result t))
+      → 0 < (told (read_result t)).number → 0 < r
+  explain-result-some = explained.a-fault (read_result t)
 
   pub explain-result-whole : (e : Explains (found_in (status_of (read_result t))) old new r) → sentence_max ≤ length old
       → new ≡ slip_words e.slip ++ drop r old

@@ -6,7 +6,7 @@ use mathlib.Core.List.{List, ◌++◌}
 use lib.ListN.{length, drop}
 use lib.Seq.{sets-eq}
 use Rattle.faults.specs.declared.Fault.{Fault}
-use Rattle.faults.specs.Checked.{Finding, Status}
+use Rattle.faults.specs.Checked.{Checked, Finding, status_of}
 use Rattle.faults.specs.Words.{fault_number}
 use Rattle.slips.specs.Slips.{found_in}
 use Rattle.phrases.specs.Says.{sentence_max}
@@ -32,15 +32,16 @@ number-some Fault.NotOpen = omega arith
 number-some Fault.Table = omega arith
 
 module _ {old new : List ℕ} {r : ℕ} where
-  pub no-fault : (st : Status) → Explains (found_in st) old new r → (told st).number ≡ 0 → (r ≡ 0) × (new ≡ old)
-  no-fault (Ok tt) e h =
+  pub no-fault : {A : Type 0} (a : Checked A) → Explains (found_in (status_of a)) old new r → (told a).number ≡ 0
+      → (r ≡ 0) × (new ≡ old)
+  no-fault (Ok x) e h =
       let none = slip-none e.slip e.fault in
       let words = rw none at e.words in
       (words.next, words.text)
   no-fault (Err r) e h = absurd (omega (arith, number-some r.fault, h))
 
-  pub a-fault : (st : Status) → Explains (found_in st) old new r → 0 < (told st).number → 0 < r
-  a-fault (Ok tt) e h = absurd (omega arith)
+  pub a-fault : {A : Type 0} (a : Checked A) → Explains (found_in (status_of a)) old new r → 0 < (told a).number → 0 < r
+  a-fault (Ok x) e h = absurd (omega arith)
   a-fault (Err r) e h = omega (arith, e.words.next, slip-some e.slip e.fault)
 
   pub whole : {found : Finding} (e : Explains found old new r) → sentence_max ≤ length old

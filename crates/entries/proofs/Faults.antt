@@ -16,8 +16,9 @@ use Rattle.faults.specs.declared.Fault.{Fault}
 use Rattle.jobs.specs.declared.Kind.{Kind}
 use Rattle.jobs.specs.declared.Job.{Job}
 use Rattle.jobs.specs.declared.Result.{Result}
-use Rattle.faults.specs.Checked.{Status, Written, status_of, Checked}
-use Rattle.faults.specs.Answer.{refused, answer_of, Leaves}
+use Rattle.faults.specs.Checked.{Checked, Status, status_of, refused}
+use Rattle.faults.specs.Checks.{and_then}
+use Rattle.faults.specs.Answer.{answer_of, Leaves}
 use Rattle.step.proofs.Decisions.{zero_one}
 use Rattle.run.specs.Job.{answer_by, run_job}
 use Rattle.entries.specs.Numbers.{Told, told, tell, or_else, short_buffer, Row, first_given, each_line}
@@ -46,11 +47,16 @@ job-first j = first-told (job-tells j)
 pub result-first : (r : Result) → told (check_result r) ≡ first_given (result_rows r)
 result-first r = first-told (result-tells r)
 
-pub image-first : (j : Job) (x : Ends) → told (status_of (gives_image j x)) ≡ first_given (image_rows j x)
-image-first j x = ap told (image-status j x) ∙ first-told (image-tells j x)
+-- what an answer tells is what its status tells
+pub told-status : {A : Type 0} (a : Checked A) → told (status_of a) ≡ told a
+told-status (Ok x) = refl
+told-status (Err r) = refl
 
-pub decide-first : (n : ℕ) (x k : Ends) → told (status_of (gives_move n x k)) ≡ first_given (decide_rows n x k)
-decide-first n x k = ap told (decide-status n x k) ∙ first-told (decide-tells n x k)
+pub image-first : (j : Job) (x : Ends) → told (gives_image j x) ≡ first_given (image_rows j x)
+image-first j x = sym (told-status (gives_image j x)) ∙ ap told (image-status j x) ∙ first-told (image-tells j x)
+
+pub decide-first : (n : ℕ) (x k : Ends) → told (gives_move n x k) ≡ first_given (decide_rows n x k)
+decide-first n x k = sym (told-status (gives_move n x k)) ∙ ap told (decide-status n x k) ∙ first-told (decide-tells n x k)
 
 pub halve-first : (j : Job) (depth : ℤ) (room : ℕ)
     → told (halve_status j depth room) ≡ first_given (halve_rows j depth room)
@@ -106,10 +112,10 @@ pub result-values : (r : Result) → number_of (check_result r) ≡ 7 → ⊥
 result-values r n = without-first (result_rows r) refl (sym (ap (λ (x : Told). x.number) (result-first r)) ∙ n)
 
 pub run-status : (j : Job) → status_of (run_job j) ≡ check_job j
-unfolding run_job
+unfolding run_job and_then
 run-status j = by (check_job j)
   where
-    by : (st : Status) → (answer_by st j).status ≡ st
+    by : (st : Status) → status_of (answer_by st j) ≡ st
     by (Ok tt) = refl
     by (Err r) = refl
 
@@ -118,15 +124,15 @@ numbered : (f : Fault) → fault_number f ≡ 0 → ⊥
 numbered f e = omega (arith, number-some f)
 
 -- "When writing, faults of the values come before 7"
-written-told : (st : Status) (old t : List ℕ) → told (answer_of st old t).status
+written-told : (st : Status) (old t : List ℕ) → told (answer_of st old t)
     ≡ or_else (told st) (short_buffer old t)
 unfolding answer_of
 written-told (Ok tt) old t = by (ltb (length old) (length t))
   where
     short : Checked ℕ
-    short = refused (refused Fault.ShortBuffer 0)
+    short = refused Fault.ShortBuffer 0
 
-    by : (b : Bool) → told (cond b short (Ok (length t))).status
+    by : (b : Bool) → told (cond b short (Ok (length t)))
         ≡ cond b (tell 7 0) (tell 0 0)
     by true = refl
     by false = refl
@@ -145,10 +151,21 @@ seven (Err r) old t other =
     (λ n. absurd (other (rw (ne_eqb (fault_number r.fault) 0 (numbered r.fault)) at n)), λ h. absurd (numbered r.fault h.0))
 
 -- an answer that the contract of a writer allows
-module _ {st : Status} {t old new : List ℕ} {a : Written} (leaves : Leaves st t old new a) where
-  pub answer-told : told a.status ≡ or_else (told st) (short_buffer old t)
+module _ {st : Status} {t old new : List ℕ} {a : Checked ℕ} (leaves : Leaves st t old new a) where
+  pub answer-told : told a ≡ or_else (told st) (short_buffer old t)
   answer-told = rw leaves.answer (written-told st old t)
 
-  pub answer-seven : (number_of st ≡ 7 → ⊥) → ((told a.status).number ≡ 7)
+  pub answer-seven : (number_of st ≡ 7 → ⊥) → ((told a).number ≡ 7)
       ↔ (((told st).number ≡ 0) × (length old < length t))
   answer-seven other = let e = ap (λ (x : Told). x.number) answer-told in rw e (seven st old t other)
+
+-- the same where the status is that of a reader's answer
+pub of-answer : {A : Type 0} (x : Checked A) {t old new : List ℕ} {a : Checked ℕ} → Leaves (status_of x) t old new a
+    → told a ≡ or_else (told x) (short_buffer old t)
+of-answer (Ok x) leaves = answer-told leaves
+of-answer (Err r) leaves = answer-told leaves
+
+pub seven-exactly : {A : Type 0} (x : Checked A) {t old new : List ℕ} {a : Checked ℕ} → Leaves (status_of x) t old new a
+    → (number_of x ≡ 7 → ⊥) → ((told a).number ≡ 7) ↔ (((told x).number ≡ 0) × (length old < length t))
+seven-exactly (Ok x) leaves other = answer-seven leaves other
+seven-exactly (Err r) leaves other = answer-seven leaves other

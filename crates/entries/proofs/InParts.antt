@@ -12,7 +12,7 @@ use Rattle.faults.specs.declared.Fault.{Fault}
 use Rattle.faults.specs.Checked.{refused}
 use Rattle.faults.specs.Checks.{is_bad}
 use Rattle.reading.specs.Lines.{step, begin, opened, more, closed, ended, read, joined_parts}
-use Rattle.job_form.specs.JobForm.{job_form_of, read_job, refused_with}
+use Rattle.job_form.specs.JobForm.{job_form_of, read_job}
 use Rattle.next_line.specs.State.{state_of}
 use Rattle.job_parts.specs.declared.Parts.{Parts}
 use Rattle.job_parts.specs.declared.Taken.{Taken}
@@ -55,7 +55,7 @@ module _ (p : Parts) where
   unfolding part_taken
   handed-back part e = rw e
 
-  pub end_refused : fits p ≡ false → end_of p ≡ refused_with beyond_limits
+  pub end_refused : fits p ≡ false → end_of p ≡ beyond_limits
   unfolding end_of
   end_refused e = rw e
 

@@ -13,7 +13,7 @@ use Rattle.text.specs.Cut.{pieces, rest}
 use Rattle.faults.specs.declared.Fault.{Fault}
 use Rattle.faults.specs.Checked.{refused}
 use Rattle.reading.specs.Lines.{step, begin, joined_parts}
-use Rattle.job_form.specs.JobForm.{job_form_of, read_job, refused_with}
+use Rattle.job_form.specs.JobForm.{job_form_of, read_job}
 use Rattle.next_line.specs.State.{state_of}
 use Rattle.job_parts.specs.declared.Parts.{Parts}
 use Rattle.job_parts.specs.Limits.{size_max, fits}

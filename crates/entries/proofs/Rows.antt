@@ -33,7 +33,7 @@ use Rattle.std.specs.Prelude.{Ok, Err}
 -- what a status tells before the rest
 abbrev pub before : Status → Told → Told
 before (Ok tt) rest = rest
-before (Err r) rest = told (Err r)
+before (Err r) rest = told {A = Unit {0}} (Err r)
 
 -- the rows tell of the status st, whatever rows come after them
 pub record Tells (rows : List Row) (st : Status) : Type 0 where

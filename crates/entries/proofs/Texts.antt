@@ -15,7 +15,7 @@ use Rattle.reading.specs.Lines.{Form, Answer, opened, more, ended, closed, read}
 use Rattle.reading.specs.Refused.{Refused}
 use Rattle.reading.proofs.Goes.{read-long}
 use Rattle.reading.proofs.Refused.{refused-exactly, refused-blamed}
-use Rattle.lines.specs.Found.{status_of}
+use Rattle.lines.specs.Answered.{answered}
 use Rattle.lines.proofs.Faults.{OfLine, spelling}
 use Rattle.job_form.specs.JobForm.{job_form_of, read_job}
 use Rattle.job_form.proofs.Answers as job
@@ -33,14 +33,14 @@ record Faults {L X : Type 0} (g : Form Fault L X) : Type 0 where
   counted : (t : List ℕ) (f : Fault) (n : ℕ) (r : Refused g t f n) → n ≡ length r.before + 1
 
 module _ {L X : Type 0} (g : Form Fault L X) (has : Faults g) (t : List ℕ) where
-  long-told : g.most < length t → told (status_of (read g t)) ≡ tell 1 0
+  long-told : g.most < length t → told (answered (read g t)) ≡ tell 1 0
   long-told h = rw (read-long g t h, has.long)
 
   -- what is told of a text that is not too long
   record OfLines (a : Answer Fault X) : Type 0 where
-    not-long : number_of (status_of a) ≡ 1 → ⊥
-    not_short : number_of (status_of a) ≡ 7 → ⊥
-    line : 1 ≤ number_of (status_of a) → 1 ≤ line_of (status_of a)
+    not-long : number_of (answered a) ≡ 1 → ⊥
+    not_short : number_of (answered a) ≡ 7 → ⊥
+    line : 1 ≤ number_of (answered a) → 1 ≤ line_of (answered a)
 
   of-lines : length t ≤ g.most → OfLines (read g t)
   of-lines h = go (read g t) refl
@@ -57,19 +57,19 @@ module _ {L X : Type 0} (g : Form Fault L X) (has : Faults g) (t : List ℕ) whe
             line = λ q. omega (arith, has.counted t f n r);
           }
 
-  long-exactly : ((told (status_of (read g t))).number ≡ 1) ↔ (g.most < length t)
+  long-exactly : ((told (answered (read g t))).number ≡ 1) ↔ (g.most < length t)
   long-exactly = (
     λ e. either g.most (length t) (λ h. h) (λ h. absurd ((of-lines h).not-long e)),
     λ h. ap (λ (x : Told). x.number) (long-told h),
   )
 
-  not-seven : number_of (status_of (read g t)) ≡ 7 → ⊥
+  not-seven : number_of (answered (read g t)) ≡ 7 → ⊥
   not-seven e =
       either g.most (length t)
       (λ h. let one = long-exactly.1 h in omega arith)
       (λ h. (of-lines h).not_short e)
 
-  line-from-one : 1 < (told (status_of (read g t))).number → 1 ≤ (told (status_of (read g t))).line
+  line-from-one : 1 < (told (answered (read g t))).number → 1 ≤ (told (answered (read g t))).line
   line-from-one q =
       either g.most (length t)
       (λ h. let one = long-exactly.1 h in absurd (omega arith))
@@ -81,19 +81,23 @@ of-job : Faults job_form_of
 of-job = record { long = refl; odd = spelling; says = job-says; counted = job.line-number }
 
 module _ (t : List ℕ) where
-  pub job-long : ((told (status_of (read_job t))).number ≡ 1) ↔ (text_max < length t)
-  job-long = rw (job.read-status t) (long-exactly job_form_of of-job t)
+  pub job-long : ((told (read_job t)).number ≡ 1) ↔ (text_max < length t)
+  unfolding read_job
+  job-long = long-exactly job_form_of of-job t
 
-  pub job-long-told : text_max < length t → told (status_of (read_job t)) ≡ tell 1 0
-  job-long-told = rw (job.read-status t) (long-told job_form_of of-job t)
+  pub job-long-told : text_max < length t → told (read_job t) ≡ tell 1 0
+  unfolding read_job
+  job-long-told = long-told job_form_of of-job t
 
-  pub job-not-seven : number_of (status_of (read_job t)) ≡ 7 → ⊥
-  job-not-seven = rw (job.read-status t) (not-seven job_form_of of-job t)
+  pub job-not-seven : number_of (read_job t) ≡ 7 → ⊥
+  unfolding read_job
+  job-not-seven = not-seven job_form_of of-job t
 
-  pub job-line : 1 < (told (status_of (read_job t))).number → 1 ≤ (told (status_of (read_job t))).line
-  job-line = rw (job.read-status t) (line-from-one job_form_of of-job t)
+  pub job-line : 1 < (told (read_job t)).number → 1 ≤ (told (read_job t)).line
+  unfolding read_job
+  job-line = line-from-one job_form_of of-job t
 
-pub job-empty : told (read_job []).status ≡ tell 2 1
+pub job-empty : told (read_job []) ≡ tell 2 1
 unfolding read_job read closed more opened ended feeds
 job-empty = refl
 
@@ -103,18 +107,22 @@ of-result : Faults result_form_of
 of-result = record { long = refl; odd = spelling; says = result_says_lem; counted = result.line-number }
 
 module _ (t : List ℕ) where
-  pub result-long : ((told (status_of (read_result t))).number ≡ 1) ↔ (text_max < length t)
-  result-long = rw (result.read-status t) (long-exactly result_form_of of-result t)
+  pub result-long : ((told (read_result t)).number ≡ 1) ↔ (text_max < length t)
+  unfolding read_result
+  result-long = long-exactly result_form_of of-result t
 
-  pub result-long-told : text_max < length t → told (status_of (read_result t)) ≡ tell 1 0
-  result-long-told = rw (result.read-status t) (long-told result_form_of of-result t)
+  pub result-long-told : text_max < length t → told (read_result t) ≡ tell 1 0
+  unfolding read_result
+  result-long-told = long-told result_form_of of-result t
 
-  pub result-not-seven : number_of (status_of (read_result t)) ≡ 7 → ⊥
-  result-not-seven = rw (result.read-status t) (not-seven result_form_of of-result t)
+  pub result-not-seven : number_of (read_result t) ≡ 7 → ⊥
+  unfolding read_result
+  result-not-seven = not-seven result_form_of of-result t
 
-  pub result-line : 1 < (told (status_of (read_result t))).number → 1 ≤ (told (status_of (read_result t))).line
-  result-line = rw (result.read-status t) (line-from-one result_form_of of-result t)
+  pub result-line : 1 < (told (read_result t)).number → 1 ≤ (told (read_result t)).line
+  unfolding read_result
+  result-line = line-from-one result_form_of of-result t
 
-pub result-empty : told (read_result []).status ≡ tell 2 1
+pub result-empty : told (read_result []) ≡ tell 2 1
 unfolding read_result read closed more opened ended feeds
 result-empty = refl

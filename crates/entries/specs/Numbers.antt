@@ -1,4 +1,4 @@
--- Document 01, "Fault numbers": what is told of an entry's status, and for values which fault, as a table. "lines are
+-- Document 01, "Fault numbers": what is told of an entry's answer, and for values which fault, as a table. "lines are
 -- taken in order and the first bad line decides; in one line 2 comes before the others, then 3, then 4, then 5 or 6",
 -- "values handed over without text get the same checks in the same line order".
 use Rattle.std.specs.Prelude.{ℕ, zero, suc, ◌+◌, ◌/◌, ◌^◌, Bool, cond, not, List, [], ◌∷◌, ◌++◌, eqb, ltb, leb, ℤ}
@@ -18,15 +18,15 @@ use Rattle.halving.specs.Lists.{listed_places}
 use Rattle.halving.specs.Halving.{depth_in}
 use Rattle.job_parts.specs.declared.Parts.{Parts}
 use Rattle.job_parts.specs.Limits.{fits}
-use Rattle.faults.specs.Checked.{Status}
+use Rattle.faults.specs.Checked.{Checked}
 
 -- "A fault returns its number and a line": 0 and 0 where there is none
 pub record Told : Type 0 where
   pub number : ℕ
   pub line : ℕ
 
-abbrev pub told : Status → Told
-told st = record { number = number_of st; line = line_of st }
+abbrev pub told : {A : Type 0} → Checked A → Told
+told a = record { number = number_of a; line = line_of a }
 
 abbrev pub tell : ℕ → ℕ → Told
 tell number line = record { number = number; line = line }
