@@ -2,10 +2,9 @@
 use crate::help;
 use people::How;
 use requests::Op;
+use std::io;
 use std::io::Write;
 use streams::outcomes::Outcome;
-use streams::say;
-use text::same_bytes;
 
 // What reads a FILE.
 #[derive(Clone, Copy)]
@@ -22,42 +21,23 @@ pub enum Command {
     Halve,
     Help,
     Version,
-    Unknown,
 }
 
 // The one table of the commands.
-pub fn command_of(word: &[u8]) -> Command {
-    if same_bytes(word, b"solve") {
-        return Command::Read(Work::One(How::Reply(Op::Solve)));
+pub fn command_of(word: &[u8]) -> Option<Command> {
+    match word {
+        b"solve" => Some(Command::Read(Work::One(How::Reply(Op::Solve)))),
+        b"show" => Some(Command::Read(Work::One(How::Show))),
+        b"image" => Some(Command::Read(Work::One(How::Reply(Op::Image)))),
+        b"step" => Some(Command::Read(Work::One(How::Step))),
+        b"halve" => Some(Command::Halve),
+        b"job" => Some(Command::Read(Work::One(How::Reply(Op::Job)))),
+        b"result" => Some(Command::Read(Work::One(How::Reply(Op::Result)))),
+        b"batch" => Some(Command::Read(Work::Batch)),
+        b"help" | b"--help" | b"-h" => Some(Command::Help),
+        b"version" | b"--version" => Some(Command::Version),
+        _ => None,
     }
-    if same_bytes(word, b"show") {
-        return Command::Read(Work::One(How::Show));
-    }
-    if same_bytes(word, b"image") {
-        return Command::Read(Work::One(How::Reply(Op::Image)));
-    }
-    if same_bytes(word, b"step") {
-        return Command::Read(Work::One(How::Step));
-    }
-    if same_bytes(word, b"halve") {
-        return Command::Halve;
-    }
-    if same_bytes(word, b"job") {
-        return Command::Read(Work::One(How::Reply(Op::Job)));
-    }
-    if same_bytes(word, b"result") {
-        return Command::Read(Work::One(How::Reply(Op::Result)));
-    }
-    if same_bytes(word, b"batch") {
-        return Command::Read(Work::Batch);
-    }
-    if same_bytes(word, b"help") || same_bytes(word, b"--help") || same_bytes(word, b"-h") {
-        return Command::Help;
-    }
-    if same_bytes(word, b"version") || same_bytes(word, b"--version") {
-        return Command::Version;
-    }
-    Command::Unknown
 }
 
 // The help stands behind what is said of a wrong call.
@@ -66,24 +46,32 @@ pub fn wrong_call<E: Write>(err: &mut E) -> Outcome {
     Outcome::NotRun
 }
 
-pub fn unknown<E: Write>(err: &mut E, word: &[u8]) -> Outcome {
-    say(err, b"floodrafter: there is no command '");
-    say(err, word);
-    say(err, b"'\n");
+fn say_wrong<E: Write>(err: &mut E, what: &[u8], word: &[u8]) -> io::Result<()> {
+    err.write_all(b"floodrafter: ")?;
+    err.write_all(what)?;
+    err.write_all(b" '")?;
+    err.write_all(word)?;
+    err.write_all(b"'\n")
+}
+
+fn wrong_word<E: Write>(err: &mut E, what: &[u8], word: &[u8]) -> Outcome {
+    let _ = say_wrong(err, what, word);
     wrong_call(err)
+}
+
+pub fn unknown<E: Write>(err: &mut E, word: &[u8]) -> Outcome {
+    wrong_word(err, b"there is no command", word)
 }
 
 pub fn no_depth<E: Write>(err: &mut E, word: &[u8]) -> Outcome {
-    say(
+    wrong_word(
         err,
-        b"floodrafter: expected a depth after halve, a whole number, not '",
-    );
-    say(err, word);
-    say(err, b"'\n");
-    wrong_call(err)
+        b"expected a depth after halve, a whole number, not",
+        word,
+    )
 }
 
 pub fn too_many<E: Write>(err: &mut E) -> Outcome {
-    say(err, b"floodrafter: too many arguments\n");
+    let _ = err.write_all(b"floodrafter: too many arguments\n");
     wrong_call(err)
 }

@@ -2,17 +2,15 @@
 use requests::packets::HEADER;
 use std::io;
 use std::io::Write;
-use streams::{write_number, write_whole};
 
 // One more with each change that may answer a text otherwise than before. 2: a square can't be negative. 3: a pin line.
 // 4: six unknowns. 5: the visit line of a result.
 pub fn version<W: Write>(to: &mut W) -> io::Result<()> {
-    write_whole(to, b"floodrafter 5\n")
+    to.write_all(b"floodrafter 5\n")
 }
 
 pub fn commands<W: Write>(to: &mut W) -> io::Result<()> {
-    write_whole(
-        to,
+    to.write_all(
         b"floodrafter solve [FILE]    the result of a job text, or its fault and line\n\
         floodrafter show [FILE]     the same, and each unknown's range in units\n\
         floodrafter image [FILE]    the image K of a job's starting box, before it is used: klo=, khi=\n\
@@ -33,8 +31,7 @@ pub fn commands<W: Write>(to: &mut W) -> io::Result<()> {
 }
 
 fn requests<W: Write>(to: &mut W) -> io::Result<()> {
-    write_whole(
-        to,
+    to.write_all(
         b"floodrafter batch [FILE] answers many requests in one run, in their order.\n\
         A request is a line and a text:\n\
         \x20   OP LENGTH   what is asked, how many bytes the text has, one line feed\n\
@@ -60,8 +57,7 @@ fn requests<W: Write>(to: &mut W) -> io::Result<()> {
 }
 
 fn answers<W: Write>(to: &mut W) -> io::Result<()> {
-    write_whole(
-        to,
+    to.write_all(
         b"\nAn answer is a line and a text:\n\
         \x20   LENGTH      how many bytes the answer has, one line feed\n\
         \x20   ANSWER      so many bytes: the lines of what was asked, or fault= and line=\n\
@@ -75,6 +71,6 @@ fn answers<W: Write>(to: &mut W) -> io::Result<()> {
 
 pub fn packets<W: Write>(to: &mut W) -> io::Result<()> {
     requests(to)?;
-    write_number(to, HEADER as u64)?;
+    write!(to, "{HEADER}")?;
     answers(to)
 }

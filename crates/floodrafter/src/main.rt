@@ -8,34 +8,32 @@ mod words;
 
 use arguments::long_number;
 use commands::{Command, Work, command_of, no_depth, too_many, unknown, wrong_call};
-use digits::Number;
 use people::DEPTH_PLACE;
 use refused::{not_text, say_refused, too_long};
 use std::io::{Read, Stderr, Stdout};
 use std::process::ExitCode;
 use std::{fs, io};
+use streams::Whole;
 use streams::outcomes::{Outcome, hand_over, written};
 use streams::standard::{Waiting, errors, input, output};
-use text::same_bytes;
 use words::{WORD, count, whole_word, word_at};
 
-fn out(rt: &HostRuntime) -> Waiting<'_, Stdout, HostRuntime> {
-    output(rt, rt.stdout())
+fn out(rt: &HostRuntime) -> Whole<Waiting<'_, Stdout, HostRuntime>> {
+    Whole(output(rt, rt.stdout()))
 }
 
-fn err(rt: &HostRuntime) -> Waiting<'_, Stderr, HostRuntime> {
-    errors(rt, rt.stderr())
+fn err(rt: &HostRuntime) -> Whole<Waiting<'_, Stderr, HostRuntime>> {
+    Whole(errors(rt, rt.stderr()))
 }
 
 // What the system refused is told by the name of what it was refused of.
 fn told(rt: &HostRuntime, outcome: Outcome, name: &[u8]) -> Outcome {
-    match outcome {
-        Outcome::Answered => {}
-        Outcome::Fault => {}
-        Outcome::NotRun => {}
+    // Nobody can be told where standard error itself fails.
+    let _ = match outcome {
+        Outcome::Answered | Outcome::Fault | Outcome::NotRun => Ok(()),
         Outcome::Unread(e) => say_refused(&mut err(rt), name, &e),
         Outcome::Unwritten(e) => say_refused(&mut err(rt), b"standard output", &e),
-    }
+    };
     outcome
 }
 
@@ -74,10 +72,10 @@ fn on_argument(rt: &HostRuntime, work: Work, place: usize) -> Outcome {
     let Ok(n) = whole_word(rt, place, &mut path) else {
         return told(rt, Outcome::Unread(too_long()), b"FILE");
     };
-    if same_bytes(&path[..n], b"-") {
-        return on_input(rt, work);
+    match &path[..n] {
+        b"-" => on_input(rt, work),
+        path => on_file(rt, work, path),
     }
-    on_file(rt, work, &path[..n])
 }
 
 // FILE is the argument `place`, if there is one.
@@ -94,10 +92,9 @@ fn read(rt: &HostRuntime, work: Work, count: usize, place: usize) -> Outcome {
 fn ask_depth(rt: &HostRuntime, count: usize) -> Outcome {
     let mut word = [0u8; WORD];
     let n = word_at(rt, DEPTH_PLACE, &mut word);
-    let depth = long_number(&word[..n]);
-    match depth {
-        Number::Is(d) => read(rt, Work::Halve(d), count, DEPTH_PLACE + 1),
-        Number::Bad => no_depth(&mut err(rt), &word[..n]),
+    match long_number(&word[..n]) {
+        Some(depth) => read(rt, Work::Halve(depth), count, DEPTH_PLACE + 1),
+        None => no_depth(&mut err(rt), &word[..n]),
     }
 }
 
@@ -106,13 +103,10 @@ fn shown(rt: &HostRuntime, whole: io::Result<()>) -> Outcome {
 }
 
 fn help_on(rt: &HostRuntime, word: &[u8]) -> Outcome {
-    if same_bytes(word, b"batch") {
-        return shown(rt, help::packets(&mut out(rt)));
-    }
-    let command = command_of(word);
-    match command {
-        Command::Unknown => unknown(&mut err(rt), word),
-        _ => shown(rt, help::commands(&mut out(rt))),
+    match command_of(word) {
+        Some(Command::Read(Work::Batch)) => shown(rt, help::packets(&mut out(rt))),
+        Some(_) => shown(rt, help::commands(&mut out(rt))),
+        None => unknown(&mut err(rt), word),
     }
 }
 
@@ -142,13 +136,12 @@ fn run(rt: &HostRuntime) -> Outcome {
     }
     let mut word = [0u8; WORD];
     let n = word_at(rt, 1, &mut word);
-    let command = command_of(&word[..n]);
-    match command {
-        Command::Read(work) => read(rt, work, count, 2),
-        Command::Halve => ask_depth(rt, count),
-        Command::Help => show_help(rt, count),
-        Command::Version => show_version(rt, count),
-        Command::Unknown => unknown(&mut err(rt), &word[..n]),
+    match command_of(&word[..n]) {
+        Some(Command::Read(work)) => read(rt, work, count, 2),
+        Some(Command::Halve) => ask_depth(rt, count),
+        Some(Command::Help) => show_help(rt, count),
+        Some(Command::Version) => show_version(rt, count),
+        None => unknown(&mut err(rt), &word[..n]),
     }
 }
 

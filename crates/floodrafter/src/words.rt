@@ -25,8 +25,5 @@ pub fn whole_word<V: Env>(env: &V, place: usize, word: &mut [u8; WORD]) -> Resul
 pub fn word_at<V: Env>(env: &V, place: usize, word: &mut [u8; WORD]) -> usize
     ensures { result ≤ length word.new }
 {
-    match whole_word(env, place, word) {
-        Ok(n) => n,
-        Err(_) => 0,
-    }
+    whole_word(env, place, word).unwrap_or(0)
 }
