@@ -15,7 +15,8 @@ unfolding shown_from
 from-short (Some slot) (Some visit) (Some room) = by (ltb text_max room) refl
   where
     by : (b : Bool) → ltb text_max room ≡ b
-        → IfSome {T = Shown} (cond b None (Some (record { slot = slot; visit = visit; room = room }))) (λ r. r.room ≤ text_max)
+        → IfSome {T = Shown} (cond b None (Some (record { slot = slot; visit = visit; room = room })))
+        (λ r. r.room ≤ text_max)
     by true e = tt
     by false e = ltb-false text_max room e
 from-short (Some slot) (Some visit) None = tt

@@ -33,7 +33,9 @@ onto-fields : (s : List ℕ) → onto [] (fields s) ≡ fields s
 onto-fields [] = refl
 onto-fields (b ∷ bs) = by (is_comma b)
   where
-    by : (t : Bool) → onto [] (cond t ([] ∷ fields bs) (onto_first b (fields bs))) ≡ cond t ([] ∷ fields bs) (onto_first b (fields bs))
+    by : (t : Bool)
+        → onto [] (cond t ([] ∷ fields bs) (onto_first b (fields bs)))
+        ≡ cond t ([] ∷ fields bs) (onto_first b (fields bs))
     by true = refl
     by false = onto-none (fields bs) b
 
@@ -53,11 +55,13 @@ and-true false b = refl
 abbrev Fed : List ℕ → Type 0
 Fed s =
     (good : Bool) (h : List ℕ)
-    → closed (feeds and_spelled comma (record { st = good; held = h }) s) ≡ good && list_all is_spelled (onto h (fields s))
+    → closed (feeds and_spelled comma (record { st = good; held = h }) s)
+    ≡ good && list_all is_spelled (onto h (fields s))
 
 fed-cons : (bs : List ℕ) → Fed bs → (b : ℕ) → Fed (b ∷ bs)
 unfolding feed
-fed-cons bs fed b good h = ap closed (feeds-cons and_spelled comma (record { st = good; held = h }) b bs) ∙ by (is_comma b)
+fed-cons bs fed b good h =
+    ap closed (feeds-cons and_spelled comma (record { st = good; held = h }) b bs) ∙ by (is_comma b)
   where
     by : (t : Bool)
         → closed

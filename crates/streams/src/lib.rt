@@ -24,8 +24,8 @@ fn passing(error: &Error) -> bool {
     }
 }
 
-// What there is of the input, no byte where it has ended. Nothing says that such calls end, so the turns are counted, up
-// to a number that no run comes to.
+// What there is of the input, no byte where it has ended. Nothing says that such calls end, so the turns are counted,
+// up to a number that no run comes to.
 pub fn read_some<R: Read>(from: &mut R, buf: &mut [u8]) -> io::Result<usize>
     ensures { IfOk result (λ n. n ≤ length buf.old) }
 {
@@ -53,6 +53,7 @@ pub fn fill<R: Read>(from: &mut R, buf: &mut [u8]) -> io::Result<usize>
     Ok(n)
 }
 
+// (As read_some but for the call: of a closure that writes no clause says what it appended.)
 fn write_once<W: Write>(to: &mut W, bytes: &[u8]) -> io::Result<usize>
     ensures bound { IfOk result (λ n. n ≤ length bytes.now) }
     ensures some { IfOk result (λ n. Appends (W.contents to.old) (W.contents to.new) (take n bytes.now)) }

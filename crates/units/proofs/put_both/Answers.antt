@@ -15,7 +15,8 @@ returns-then-out-room c =
     let r = c.args.r in
     let room = c.put_unknowns-room.ensures.next in
     rw c.refused.ensures
-    (no_room (units_of r) c.args.out.now (omega (arith, c.if-out-room.true, room, both-length r, ap length c.requires.text)))
+    (no_room (units_of r) c.args.out.now
+    (omega (arith, c.if-out-room.true, room, both-length r, ap length c.requires.text)))
 
 pub returns : goal.returns
 returns c =

@@ -1,7 +1,7 @@
 -- `units::write_checked` meets its contract.
 use borrow.Author.Rules.{rules}
 use native.Mathlib.Omega.{arith}
-use mathlib.Core.Path.{sym, ◌∙◌}
+use mathlib.Core.Path.{sym}
 use lib.Seq.{length-take-le}
 use Rattle.result_write.proofs.Ready.{ready-done}
 use Rattle.units.proofs.Both.{result-done, result-whole, checked-short}

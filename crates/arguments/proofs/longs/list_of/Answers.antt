@@ -22,13 +22,15 @@ pub returns-then-end-s : goal.returns-then-end-s
 returns-then-end-s c =
     let fits : SFits w64 c.in_ok-place.field-0 = search rules in
     rw (to_z-of_z fits)
-    (field-last c.loop-place.invariant c.piece_end-end.ensures c.loop-place-test.true c.in_ok-place.ensures c.if-end-s.true)
+    (field-last c.loop-place.invariant c.piece_end-end.ensures c.loop-place-test.true c.in_ok-place.ensures
+    c.if-end-s.true)
 
 pub loop-place-preserved : goal.loop-place-preserved
 loop-place-preserved c =
     let fits : SFits w64 c.in_ok-place.field-0 = search rules in
     rw (to_z-of_z fits)
-    (field-more c.loop-place.invariant c.piece_end-end.ensures c.loop-place-test.true c.in_ok-place.ensures c.if-end-s.false)
+    (field-more c.loop-place.invariant c.piece_end-end.ensures c.loop-place-test.true c.in_ok-place.ensures
+    c.if-end-s.false)
 
 pub returns : goal.returns
 returns c = fields-over c.loop-place.invariant c.loop-place-test.false

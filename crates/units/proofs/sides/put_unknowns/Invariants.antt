@@ -1,5 +1,5 @@
 -- `units::sides::put_unknowns` meets its contract.
-use Prim.Native.Nat.{ℕ, ◌+◌, ◌-◌, ◌*◌, ◌≤◌}
+use Prim.Native.Nat.{ℕ, ◌+◌, ◌*◌, ◌≤◌}
 use mathlib.Core.List.{List}
 use lib.IntN.{ℤ}
 use Rattle.writing.specs.Wrote.{Wrote}
