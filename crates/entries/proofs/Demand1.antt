@@ -1,6 +1,6 @@
 -- Demand 1 in document 01's numbers: what each public entry tells of a fault, its number and its line, by the
 -- definitions that its contract cites. Only statements, each proved by one line from the files beside this one. `told`
--- is `number_of` and `line_of` of a status, 0 and 0 where there is no fault.
+-- is `number_of` and `line_of` of an answer, 0 and 0 where there is no fault.
 use mathlib.Core.Path.{◌≡◌, ap, sym, ◌∙◌}
 use mathlib.Core.List.{List, [], ◌++◌}
 use mathlib.Core.Logic.{◌↔◌}

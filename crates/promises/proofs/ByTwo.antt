@@ -108,7 +108,8 @@ module _ (n : ℕ) (x k : Ends) (taken : decide_check n x k ≡ Ok tt) where
   unfolding moves_to
   what-is = ap (λ (d : Checked Decided). (decided_in d).what) (moves n x k taken)
 
-  pub none-exactly : ((decided_in (gives_move n x k)).what ≡ Move.None) ↔ Empty n (side_at (box_of n x)) (side_at (box_of n k))
+  pub none-exactly : ((decided_in (gives_move n x k)).what ≡ Move.None) ↔ Empty n (side_at (box_of n x))
+      (side_at (box_of n k))
   none-exactly = rw what-is (exactly.none-exactly n (box_of n x) (box_of n k))
 
   pub unique-exactly : ((decided_in (gives_move n x k)).what ≡ Move.Unique) ↔ Strictly n (side_at (box_of n x))

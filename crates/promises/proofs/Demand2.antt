@@ -170,7 +170,7 @@ job-line-number = job-text.line-number
 pub result-line-number : (t : List ℕ) (f : Fault) (n : ℕ) (r : Refused result_form_of t f n) → n ≡ length r.before + 1
 result-line-number = result-text.line-number
 
--- and what a text's first bytes have decided stays so, whatever bytes come after them, with zeros beside the fault
+-- and what a text's first bytes have decided stays so, whatever bytes come after them, with no value beside the fault
 pub job-decided : (a b : List ℕ) (f : Fault) (n : ℕ) → Decides job_form_of a f n → length (a ++ b) ≤ text_max
     → read_job (a ++ b) ≡ refused f n
 job-decided = job-text.decided

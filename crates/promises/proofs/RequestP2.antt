@@ -127,5 +127,6 @@ pub text-ignores : (j : Job) (p : ℕ) → after_n j.head.kind ≡ JobLine.Lo �
 text-ignores = pins.bytes-ignore
 
 -- values and text agree in faults and lines, the shifted ones too
-pub same-order : (j : Job) → Spelled j → length (job_bytes j) ≤ text_max → status_of (read_job (job_bytes j)) ≡ check_job j
+pub same-order : (j : Job) → Spelled j → length (job_bytes j) ≤ text_max
+    → status_of (read_job (job_bytes j)) ≡ check_job j
 same-order = answers.same-order

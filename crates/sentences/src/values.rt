@@ -2,8 +2,8 @@
 ghost use Rattle.std.specs.Prelude.{◌+◌, ◌≤◌, length};
 ghost use Rattle.phrases.specs.Says.{Says, sentence_max, words_most, range_most};
 ghost use Rattle.sentences.specs.Sentences.{range_words, far_not, beyond_words, far_words, crossing_words};
-ghost use Rattle.sentences.specs.Sentences.{crossed_words, count_far_words, many_words, zero_words, degree_words, same_words};
-ghost use Rattle.sentences.specs.Sentences.{order_words, term_words};
+ghost use Rattle.sentences.specs.Sentences.{crossed_words, count_far_words, many_words, zero_words, degree_words};
+ghost use Rattle.sentences.specs.Sentences.{same_words, order_words, term_words};
 
 use phrases::{put_count, put_value, say, tell, tell_first};
 use sizes::{DEGREE, END, ENTRY, NUMBER, TERMS, VISIT};

@@ -107,7 +107,7 @@ fn slip_of(text: &[u8], f: Fault, s: Seen) -> Slip
     }
 }
 
-// The head of a job text, as far as its lines are right: beside a bad pin they name the kind and n.
+// The head of a job text: beside a bad pin its kind and n stand, beside an earlier fault all is zero.
 fn head_in(text: &[u8]) -> Head
     ensures { result.n ≤ n_max }
 {

@@ -31,7 +31,7 @@ fn written<W: Write>(to: &mut W, w: Checked<usize>, buf: &[u8]) -> io::Result<()
     writeln!(to, "]")
 }
 
-// Whether the places past n are zero.
+// Says whether the places past n are zero.
 fn past<W: Write>(to: &mut W, xs: [i64; N], n: usize) -> io::Result<()> {
     if xs.iter().skip(n).all(|x| *x == 0) {
         write!(to, " zero")
