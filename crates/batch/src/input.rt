@@ -55,8 +55,12 @@ impl<'a, R: Read> Input<'a, R> {
         Ok(n)
     }
 
-    // Reads what is left to pass over, where nothing is at hand; whether the input has as many bytes.
-    pub fn skip(&mut self, n: u64) -> io::Result<bool> {
+    // Reads what is left to pass over, and keeps nothing at hand; whether the input has as many bytes.
+    pub fn skip(&mut self, n: u64) -> io::Result<bool>
+        ensures { (self.new.at ≡ 0) × (self.new.end ≡ 0) }
+    {
+        self.at = 0;
+        self.end = 0;
         let mut left = n;
         while left > 0 {
             let want = left.min(IN as u64) as usize;

@@ -1,5 +1,5 @@
 // What goes out: answers that wait, and those that are written.
-ghost use Rattle.std.specs.Prelude.{◌≤◌, length};
+ghost use Rattle.std.specs.Prelude.{◌≡◌, ◌≤◌, length};
 ghost use Rattle.answers.specs.Answers.{room_max};
 ghost use Rattle.listing.specs.Lines.{EntryIn};
 ghost use Rattle.batch.specs.Hand.{block_max, out_max};
@@ -10,6 +10,7 @@ use digits::DIGITS;
 use listing::{Listing, put_box, put_head};
 use std::io;
 use std::io::Write;
+use streams::write_whole;
 use writing::put_count_line;
 
 const OUT: usize = BLOCK + ROOM + DIGITS + 1;
@@ -70,15 +71,19 @@ impl<'a, W: Write> Output<'a, W> {
     }
 
     // The answers that wait.
-    pub fn write(&mut self) -> io::Result<()> {
+    pub fn write(&mut self) -> io::Result<()>
+        ensures { self.new.block.used ≡ 0 }
+    {
         let used = self.block.used;
         self.block.used = 0;
-        self.writer.write_all(self.block.first(used))
+        write_whole(self.writer, self.block.first(used))
     }
 
     // Behind them, at once.
-    pub fn say(&mut self, words: &[u8]) -> io::Result<()> {
-        self.writer.write_all(words)
+    pub fn say(&mut self, words: &[u8]) -> io::Result<()>
+        ensures { self.new.block.used ≡ self.old.block.used }
+    {
+        write_whole(self.writer, words)
     }
 
     // So many bytes are used now: what fills a block is written.
@@ -90,7 +95,7 @@ impl<'a, W: Write> Output<'a, W> {
             return Ok(());
         }
         self.block.used = 0;
-        self.writer.write_all(self.block.first(used))
+        write_whole(self.writer, self.block.first(used))
     }
 
     pub fn add(&mut self, answer: &[u8]) -> io::Result<()>

@@ -1,16 +1,22 @@
 // What ends a run: requests that are not framed as they should be, and the end of the input.
+ghost use Rattle.std.specs.Prelude.{◌≡◌};
+
 use crate::output::Output;
 use std::io::Write;
 use streams::outcomes::Outcome;
 
-fn told<W: Write>(output: &mut Output<W>, words: &[u8]) -> Outcome {
+fn told<W: Write>(output: &mut Output<W>, words: &[u8]) -> Outcome
+    ensures { output.new.block.used ≡ output.old.block.used }
+{
     match output.say(words) {
         Ok(()) => Outcome::NotRun,
         Err(e) => Outcome::Unwritten(e),
     }
 }
 
-pub fn bad_line<W: Write>(output: &mut Output<W>) -> Outcome {
+pub fn bad_line<W: Write>(output: &mut Output<W>) -> Outcome
+    ensures { output.new.block.used ≡ output.old.block.used }
+{
     told(
         output,
         b"error=expected a line of solve, job, result, parts L1,L2,.., image, image LO HI, \
@@ -20,7 +26,9 @@ pub fn bad_line<W: Write>(output: &mut Output<W>) -> Outcome {
     )
 }
 
-pub fn bad_text<W: Write>(output: &mut Output<W>) -> Outcome {
+pub fn bad_text<W: Write>(output: &mut Output<W>) -> Outcome
+    ensures { output.new.block.used ≡ output.old.block.used }
+{
     told(
         output,
         b"error=expected as many bytes of text as the length says\n",
@@ -28,7 +36,9 @@ pub fn bad_text<W: Write>(output: &mut Output<W>) -> Outcome {
 }
 
 // The input has ended, and these bytes are at hand.
-pub fn at_end<W: Write>(output: &mut Output<W>, have: &[u8]) -> Outcome {
+pub fn at_end<W: Write>(output: &mut Output<W>, have: &[u8]) -> Outcome
+    ensures { output.new.block.used ≡ output.old.block.used }
+{
     if have.is_empty() {
         return Outcome::Answered;
     }

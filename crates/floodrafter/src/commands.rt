@@ -2,9 +2,9 @@
 use crate::help;
 use people::How;
 use requests::Op;
-use std::io;
 use std::io::Write;
 use streams::outcomes::Outcome;
+use streams::say;
 
 // What reads a FILE.
 #[derive(Clone, Copy)]
@@ -46,32 +46,26 @@ pub fn wrong_call<E: Write>(err: &mut E) -> Outcome {
     Outcome::NotRun
 }
 
-fn say_wrong<E: Write>(err: &mut E, what: &[u8], word: &[u8]) -> io::Result<()> {
-    err.write_all(b"floodrafter: ")?;
-    err.write_all(what)?;
-    err.write_all(b" '")?;
-    err.write_all(word)?;
-    err.write_all(b"'\n")
-}
-
 fn wrong_word<E: Write>(err: &mut E, what: &[u8], word: &[u8]) -> Outcome {
-    let _ = say_wrong(err, what, word);
+    say(err, what);
+    say(err, word);
+    say(err, b"'\n");
     wrong_call(err)
 }
 
 pub fn unknown<E: Write>(err: &mut E, word: &[u8]) -> Outcome {
-    wrong_word(err, b"there is no command", word)
+    wrong_word(err, b"floodrafter: there is no command '", word)
 }
 
 pub fn no_depth<E: Write>(err: &mut E, word: &[u8]) -> Outcome {
     wrong_word(
         err,
-        b"expected a depth after halve, a whole number, not",
+        b"floodrafter: expected a depth after halve, a whole number, not '",
         word,
     )
 }
 
 pub fn too_many<E: Write>(err: &mut E) -> Outcome {
-    let _ = err.write_all(b"floodrafter: too many arguments\n");
+    say(err, b"floodrafter: too many arguments\n");
     wrong_call(err)
 }

@@ -28,12 +28,11 @@ fn err(rt: &HostRuntime) -> Whole<Waiting<'_, Stderr, HostRuntime>> {
 
 // What the system refused is told by the name of what it was refused of.
 fn told(rt: &HostRuntime, outcome: Outcome, name: &[u8]) -> Outcome {
-    // Nobody can be told where standard error itself fails.
-    let _ = match outcome {
-        Outcome::Answered | Outcome::Fault | Outcome::NotRun => Ok(()),
+    match outcome {
+        Outcome::Answered | Outcome::Fault | Outcome::NotRun => {}
         Outcome::Unread(e) => say_refused(&mut err(rt), name, &e),
         Outcome::Unwritten(e) => say_refused(&mut err(rt), b"standard output", &e),
-    };
+    }
     outcome
 }
 

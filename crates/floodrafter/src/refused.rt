@@ -1,6 +1,6 @@
 // What the system refused, in its own words.
-use std::io;
 use std::io::{Error, Write};
+use streams::say;
 
 // More than any of the system's sentences has, with the number that std puts behind it.
 const SENTENCE: usize = 320;
@@ -27,21 +27,20 @@ fn without_number(sentence: &str) -> &str {
     }
 }
 
-fn say_error<E: Write>(err: &mut E, error: &Error) -> io::Result<()> {
+fn say_error<E: Write>(err: &mut E, error: &Error) {
     let mut sentence = [0u8; SENTENCE];
     let mut rest = &mut sentence[..];
     let _ = write!(rest, "{error}");
     let n = SENTENCE.saturating_sub(rest.len());
-    match str::from_utf8(&sentence[..n]) {
-        Ok(words) => err.write_all(without_number(words).as_bytes()),
-        Err(_) => Ok(()),
+    if let Ok(words) = str::from_utf8(&sentence[..n]) {
+        say(err, without_number(words).as_bytes());
     }
 }
 
-pub fn say_refused<E: Write>(err: &mut E, name: &[u8], error: &Error) -> io::Result<()> {
-    err.write_all(b"floodrafter: ")?;
-    err.write_all(name)?;
-    err.write_all(b": ")?;
-    say_error(err, error)?;
-    err.write_all(b"\n")
+pub fn say_refused<E: Write>(err: &mut E, name: &[u8], error: &Error) {
+    say(err, b"floodrafter: ");
+    say(err, name);
+    say(err, b": ");
+    say_error(err, error);
+    say(err, b"\n");
 }

@@ -1,7 +1,7 @@
 -- Lines that hold a word, or one count.
 use Prim.Native.Nat.{ℕ, ◌+◌, ◌≤◌}
 use native.Mathlib.Omega.{arith}
-use mathlib.Core.Path.{◌≡◌, refl, ap}
+use mathlib.Core.Path.{◌≡◌, refl, sym, ap, ◌∙◌}
 use mathlib.Core.List.{List}
 use mathlib.Core.Bool.{Bool, true, false, cond, false≢true}
 use lib.ListN.{length}
@@ -9,7 +9,7 @@ use lib.Dec.{ltb}
 use lib.IntN.{ℤ}
 use Rattle.faults.specs.declared.Fault.{Fault}
 use Rattle.digits.specs.Number.{read_number}
-use Rattle.text.specs.Counts.{in_count, count_of}
+use Rattle.text.specs.Counts.{count_of}
 use Rattle.text.specs.Keys.{same_bytes, body_of}
 use Rattle.jobs.specs.declared.Kind.{Kind}
 use Rattle.jobs.specs.declared.Verdict.{Verdict}
@@ -20,7 +20,7 @@ use Rattle.text.proofs.Keys.{same-was}
 use Rattle.scan.proofs.Parts.{part_length}
 use Rattle.scan.specs.declared.At.{At}
 use Rattle.text.specs.declared.Uncounted.{Uncounted}
-use Rattle.scan.specs.Lines.{line_of, number_of, counted_of, with_next, line_is}
+use Rattle.scan.specs.Lines.{line_of, number_of, counted_of, line_is}
 use Rattle.lines.specs.Lines.{misspelled, word_or, kind_of, verdict_of}
 use Rattle.lines.specs.Texts.{kind_text, verdict_text}
 use Rattle.line_read.specs.At.{said, onward, line_from, word_from}
@@ -131,29 +131,32 @@ verdict-line t a =
 
 -- ---- a count
 
--- why there is no count, as a fault
-abbrev pub told : Fault → Result (At ℕ) Uncounted → Found (At ℕ)
-told out (Ok y) = Ok y
-told out (Err Uncounted.Bad) = Err Fault.Spelling
-told out (Err Uncounted.Out) = Err out
+-- a count as a line's value; what is no count as a fault
+abbrev told : Fault → Option (At (Result ℕ Uncounted)) → Found (At ℕ)
+told out (Some c) = line_from (counted Fault.Spelling out c.value) c.next
+told out None = Err Fault.Spelling
 
-pub count-is : (out : Fault) (key : List ℕ) (most : ℕ) (t : List ℕ) (a : ℕ) {x : Result (At ℕ) Uncounted}
-    → x ≡ counted_of most (number_of key t a) (line_end t a)
-    → told out x ≡ line_from (said (count_line Fault.Spelling out key most) t a) (onward t a)
-unfolding line_at count_line counted counted_of count_of
-count-is out key most t a {x} w = go (ltb (line_end t a) (length t)) (read_number (body_of key (line_of t a))) w
-  where
-    one : (c : Result ℕ Uncounted)
-        → told out (with_next c (onward t a)) ≡ line_from (counted Fault.Spelling out c) (onward t a)
-    one (Ok m) = refl
-    one (Err Uncounted.Bad) = refl
-    one (Err Uncounted.Out) = refl
+module _ (out : Fault) (key : List ℕ) (most : ℕ) (t : List ℕ) (a : ℕ) {x : Option (At (Result ℕ Uncounted))}
+    (w : x ≡ counted_of most (number_of key t a) (line_end t a)) where
+  count-is : told out x ≡ line_from (said (count_line Fault.Spelling out key most) t a) (onward t a)
+  unfolding line_at count_line counted counted_of count_of
+  count-is = go (ltb (line_end t a) (length t)) (read_number (body_of key (line_of t a))) w
+    where
+      go : (e : Bool) (v : Option ℤ) → x ≡ counted_of most (cond e v None) (line_end t a)
+          → told out x ≡ line_from (cond e (counted Fault.Spelling out (count_of most v)) misspelled) (onward t a)
+      go true (Some v) p = rw p
+      go true None p = rw p
+      go false v p = rw p
 
-    go : (e : Bool) (v : Option ℤ) → x ≡ counted_of most (cond e v None) (line_end t a)
-        → told out x ≡ line_from (cond e (counted Fault.Spelling out (count_of most v)) misspelled) (onward t a)
-    go true (Some v) p = rw p (one (in_count most v))
-    go true None p = rw p
-    go false v p = rw p
+  pub no-number : x ≡ None
+      → Err Fault.Spelling ≡ line_from (said (count_line Fault.Spelling out key most) t a) (onward t a)
+  no-number e = ap (told out) (sym e) ∙ count-is
+
+  pub one-number : {c : At (Result ℕ Uncounted)} {r : Result ℕ Uncounted} → x ≡ Some c → c.value ≡ r
+      → line_from (counted Fault.Spelling out r) c.next
+      ≡ line_from (said (count_line Fault.Spelling out key most) t a) (onward t a)
+  one-number {c} e v =
+      ap (λ r. line_from (counted Fault.Spelling out r) c.next) (sym v) ∙ ap (told out) (sym e) ∙ count-is
 
 -- a line that is these bytes ends after them
 pub line-past : (w t : List ℕ) (a : ℕ) → a ≤ length t → line_is w t a ≡ true

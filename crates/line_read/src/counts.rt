@@ -23,10 +23,15 @@ fn count_line(text: &[u8], from: usize, key: &[u8], most: u64, out: Fault) -> Re
     ensures { result ≡ line_from (said (count_line Fault.Spelling out key.now most) text.now from)
         (onward text.now from) }
 {
-    count_at(text, from, key, most).map_err(|none| match none {
-        Uncounted::Bad => Fault::Spelling,
-        Uncounted::Out => out,
-    })
+    let count = count_at(text, from, key, most).ok_or(Fault::Spelling)?;
+    match count.value {
+        Ok(value) => Ok(At {
+            value,
+            next: count.next,
+        }),
+        Err(Uncounted::Bad) => Err(Fault::Spelling),
+        Err(Uncounted::Out) => Err(out),
+    }
 }
 
 #[tactic(auto, unfolding(lines::specs::Lines::number_of))]

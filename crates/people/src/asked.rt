@@ -5,9 +5,9 @@ ghost use Rattle.phrases.specs.Says.{sentence_max};
 use faults::Refusal;
 use sentences::{SENTENCE, explain_job, explain_result};
 use sizes::DEPTH;
-use std::io;
 use std::io::Write;
 use streams::outcomes::Outcome;
+use streams::{say, say_number};
 
 // A text, a result's or a job's, with the name that it was asked by and the depth as it was typed, if it was.
 #[derive(Clone, Copy)]
@@ -29,34 +29,37 @@ impl Asked<'_> {
         }
     }
 
-    fn say_depth<E: Write>(&self, err: &mut E) -> io::Result<()> {
-        err.write_all(b"the depth is ")?;
-        err.write_all(self.typed)?;
-        write!(err, ": it lies from 0 to {DEPTH}")
+    fn say_depth<E: Write>(&self, err: &mut E) {
+        say(err, b"the depth is ");
+        say(err, self.typed);
+        say(err, b": it lies from 0 to ");
+        say_number(err, DEPTH);
     }
 
     // As `job.txt:8: fault 6: ..`. A text without a fault has no sentence: then it is the depth that was refused.
-    fn say_fault<E: Write>(&self, err: &mut E, refusal: Refusal) -> io::Result<()> {
-        err.write_all(self.name)?;
+    fn say_fault<E: Write>(&self, err: &mut E, refusal: Refusal) {
+        say(err, self.name);
         if refusal.line > 0 {
-            write!(err, ":{}", refusal.line)?;
+            say(err, b":");
+            say_number(err, refusal.line);
         }
-        write!(err, ": fault {}: ", u64::from(refusal.fault))?;
+        say(err, b": fault ");
+        say_number(err, u64::from(refusal.fault));
+        say(err, b": ");
         let mut sentence = [0u8; SENTENCE];
         let n = self.explain(&mut sentence);
         if n == 0 {
-            self.say_depth(err)?;
+            self.say_depth(err);
         }
-        err.write_all(&sentence[..n])?;
-        err.write_all(b"\n")
+        say(err, &sentence[..n]);
+        say(err, b"\n");
     }
 
-    // Nobody can be told where standard error itself fails.
     pub fn outcome<E: Write>(&self, err: &mut E, refused: Option<Refusal>) -> Outcome {
         match refused {
             None => Outcome::Answered,
             Some(refusal) => {
-                let _ = self.say_fault(err, refusal);
+                self.say_fault(err, refusal);
                 Outcome::Fault
             }
         }

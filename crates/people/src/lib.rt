@@ -13,8 +13,8 @@ use listing::list_text;
 use requests::Op;
 use sizes::TEXT;
 use std::io::{Read, Write};
-use streams::fill;
 use streams::outcomes::Outcome;
+use streams::{fill, write_whole};
 
 // The argument of the program that says how deep a job is halved.
 pub const DEPTH_PLACE: usize = 2;
@@ -100,7 +100,7 @@ pub fn one<R: Read, W: Write, E: Write>(
     let mut room = [0u8; ROOM];
     let a = answer(how, asked.text, &mut room);
     let k = tell(a, &mut room);
-    match out.write_all(&room[..k]) {
+    match write_whole(out, &room[..k]) {
         Ok(()) => asked.outcome(err, a.err()),
         Err(e) => Outcome::Unwritten(e),
     }

@@ -7,18 +7,19 @@ use faults::Refusal;
 use listing::{Listing, put_box, put_head};
 use std::io;
 use std::io::Write;
+use streams::write_whole;
 
 // A fault's two lines.
 pub fn print_fault<W: Write>(out: &mut W, refusal: Refusal) -> io::Result<()> {
     let mut room = [0u8; ROOM];
     let n = tell(Err(refusal), &mut room);
-    out.write_all(&room[..n])
+    write_whole(out, &room[..n])
 }
 
 fn print_head<W: Write>(out: &mut W, l: Listing) -> io::Result<()> {
     let mut piece = [0u8; ROOM];
     let n = put_head(&mut piece, 0, l);
-    out.write_all(&piece[..n])
+    write_whole(out, &piece[..n])
 }
 
 fn print_box<W: Write>(out: &mut W, n: usize, list: &[i64], i: usize) -> io::Result<()>
@@ -26,7 +27,7 @@ fn print_box<W: Write>(out: &mut W, n: usize, list: &[i64], i: usize) -> io::Res
 {
     let mut piece = [0u8; ROOM];
     let n = put_box(&mut piece, 0, n, list, i);
-    out.write_all(&piece[..n])
+    write_whole(out, &piece[..n])
 }
 
 pub fn print<W: Write>(out: &mut W, l: Listing, list: &[i64]) -> io::Result<()>

@@ -16,13 +16,12 @@ use Rattle.text.specs.Counts.{in_count}
 use Rattle.reading.specs.Places.{line_end}
 use Rattle.reading.proofs.Ends.{line-end, end_is}
 use Rattle.scan.specs.Fields.{is_at, Stops, OnlyNumber}
-use Rattle.scan.specs.Lines.{no_feed, line_of, number_of, counted_of, with_next, CountFrom, line_is}
+use Rattle.scan.specs.Lines.{no_feed, line_of, number_of, counted_of, CountFrom, line_is}
 use Rattle.scan.proofs.Parts.{part_length}
 use Rattle.scan.proofs.Tests.{at-yes, at-no, not-ended, is-ended}
 use Rattle.scan.proofs.Keyed.{key-long, no_key, no_body, has_key, same_end, body_at}
 use Rattle.scan.proofs.Listing.{empty-bad, number-here, number-other}
-use Rattle.std.specs.Prelude.{Err, Option, Some, None}
-use Rattle.text.specs.declared.Uncounted.{Uncounted}
+use Rattle.std.specs.Prelude.{Option, Some, None}
 
 -- the LF at m ends the line, where none stands before it
 pub ends_at : (t : List ℕ) (a m : ℕ) → a ≤ m → ((k : ℕ) → a ≤ k → k < m → line_feed < get_or t k 0)
@@ -81,7 +80,7 @@ module _ (t key : List ℕ) (from : ℕ) (h : from ≤ length t) where
   number-keyed a y = rw (ap read_number (body_at t key from h a y), same_end t key from h a y)
 
   module _ (most : ℕ) where
-    pub other_key : starts_with key (drop from t) ≡ false → CountFrom most key t from (Err Uncounted.Bad)
+    pub other_key : starts_with key (drop from t) ≡ false → CountFrom most key t from None
     unfolding counted_of
     other_key z = rw (no_number z)
 
@@ -91,12 +90,12 @@ module _ (t key : List ℕ) (from : ℕ) (h : from ≤ length t) where
       room = key-long t key from h y
 
       pub no-count : (from + length key < next → is_at t next line_feed ≡ false)
-          → CountFrom most key t from (Err Uncounted.Bad)
+          → CountFrom most key t from None
       unfolding counted_of
       no-count o = rw (number-keyed a y, number-none t (from + length key) room v next n o)
 
       pub one-count : (next ≡ from + length key → ⊥) → is_at t next line_feed ≡ true
-          → CountFrom most key t from (with_next (in_count most v) (next + 1))
+          → CountFrom most key t from (Some (record { value = in_count most v; next = next + 1 }))
       unfolding counted_of
       one-count o z =
           rw (

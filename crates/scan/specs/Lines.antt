@@ -1,6 +1,6 @@
 -- A whole line at its place: "Lines end in one LF, the last too".
 use Rattle.std.specs.Prelude.{ℕ, ◌+◌, ◌≤◌, ◌≡◌, List, [], ◌∷◌, Bool, true, false, cond, length, take, replicate, eqb}
-use Rattle.std.specs.Prelude.{ltb, ℤ, pos, Result, Ok, Err, Option, Some, None}
+use Rattle.std.specs.Prelude.{ltb, ℤ, pos, Result, Option, Some, None}
 use Rattle.digits.specs.Bytes.{line_feed}
 use Rattle.digits.specs.Number.{read_number}
 use Rattle.text.specs.Counts.{in_count}
@@ -56,17 +56,13 @@ pub record ListFrom (key t : List ℕ) (a : ℕ) (r : Option (At ℕ)) (old vals
 abbrev pub number_of : List ℕ → List ℕ → ℕ → Option ℤ
 number_of key t a = cond (ltb (line_end t a) (length t)) (read_number (body_of key (line_of t a))) None
 
--- a value, and the place after it
-abbrev pub with_next : {A E : Type 0} → Result A E → ℕ → Result (At A) E
-with_next (Ok x) e = Ok (record { value = x; next = e })
-with_next (Err u) e = Err u
-
-unfoldable pub counted_of : ℕ → Option ℤ → ℕ → Result (At ℕ) Uncounted
-counted_of most (Some v) e = with_next (in_count most v) (e + 1)
-counted_of most None e = Err Uncounted.Bad
+-- it as a count, or that it is beyond its limit, and where the next line begins
+unfoldable pub counted_of : ℕ → Option ℤ → ℕ → Option (At (Result ℕ Uncounted))
+counted_of most (Some v) e = Some (record { value = in_count most v; next = e + 1 })
+counted_of most None e = None
 
 -- what is told of the line that begins at a
-abbrev pub CountFrom : ℕ → List ℕ → List ℕ → ℕ → Result (At ℕ) Uncounted → Type 0
+abbrev pub CountFrom : ℕ → List ℕ → List ℕ → ℕ → Option (At (Result ℕ Uncounted)) → Type 0
 CountFrom most key t a r = r ≡ counted_of most (number_of key t a) (line_end t a)
 
 -- ---- known bytes

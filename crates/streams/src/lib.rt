@@ -12,6 +12,9 @@ use std::io;
 use std::io::{Error, ErrorKind, Read, Write};
 use std::thread::yield_now;
 
+// As many as a number of 64 bits can have.
+const DIGITS: usize = 20;
+
 // A call that fails so is made again. Others run before one that was not ready.
 fn passing(error: &Error) -> bool {
     match error.kind() {
@@ -81,6 +84,20 @@ pub fn write_whole<W: Write>(to: &mut W, bytes: &[u8]) -> io::Result<()>
         rest = &rest[n..];
     }
     Ok(())
+}
+
+// Nobody can be told where standard error itself fails.
+pub fn say<W: Write>(err: &mut W, words: &[u8]) {
+    let _ = write_whole(err, words);
+}
+
+// A number, as one piece.
+pub fn say_number<W: Write>(err: &mut W, v: u64) {
+    let mut digits = [0u8; DIGITS];
+    let mut rest = &mut digits[..];
+    let _ = write!(rest, "{v}");
+    let n = DIGITS.saturating_sub(rest.len());
+    say(err, &digits[..n]);
 }
 
 // A writer of whole answers: it waits, and so does `write!` to it.

@@ -5,9 +5,8 @@ use mir.Syntax.{w64}
 use mir.Val.{SFits}
 use mir.Facts.{to_z-of_z}
 use borrow.Author.Rules.{rules}
-use Rattle.std.specs.Prelude.{Result, Err}
+use Rattle.std.specs.Prelude.{Result, None, Some}
 use Rattle.text.specs.declared.Uncounted.{Uncounted}
-use Rattle.scan.specs.Lines.{with_next}
 use Rattle.scan.proofs.Keyed.{key-long}
 use Rattle.scan.proofs.Counting.{other_key, no-count, one-count}
 use Rattle.scan.proofs.lines.count_at.Goals as goal
@@ -20,38 +19,29 @@ number_at-requires c =
     let a = c.args in
     key-long a.s.now a.key.now a.from c.requires.0 (sym c.key_at.ensures ∙ c.if-not-key_at.false)
 
-pub returns-in_default : goal.returns-in_default
-returns-in_default c =
+pub returns-in_err-number : goal.returns-in_err-number
+returns-in_err-number c =
     let a = c.args in
     let p = c.requires in
-    no-count a.s.now a.key.now _ p.0 _ p.1 (sym c.key_at.ensures ∙ c.if-not-key_at.false) c.in_default.ensures
-    (λ g. absurd (omega (arith, g)))
+    let e : c.from_residual.result ≡ None = search rules in
+    rw e
+    (no-count a.s.now a.key.now _ p.0 _ p.1 (sym c.key_at.ensures ∙ c.if-not-key_at.false) c.in_err-number.ensures
+    (λ g. absurd (omega (arith, g))))
 
 pub returns-then-not-is_at : goal.returns-then-not-is_at
 returns-then-not-is_at c =
     let a = c.args in
     let p = c.requires in
-    no-count a.s.now a.key.now _ p.0 _ p.1 (sym c.key_at.ensures ∙ c.if-not-key_at.false) c.in-Some.ensures.1
+    no-count a.s.now a.key.now _ p.0 _ p.1 (sym c.key_at.ensures ∙ c.if-not-key_at.false) c.in_ok-number.ensures.1
     (λ g. sym c.is_at.ensures ∙ c.if-not-is_at.true)
-
-pub returns-in_err-value : goal.returns-in_err-value
-returns-in_err-value c =
-    let a = c.args in
-    let p = c.requires in
-    let n = c.in-Some in
-    let fits : SFits w64 n.number.value = search rules in
-    let refused : c.from_residual.result ≡ Err c.in_err-value.field-0.0 = search rules in
-    refused
-    ∙ ap (λ (r : Result ℕ Uncounted). with_next r (n.number.next + 1)) (rw (to_z-of_z fits) at c.in_err-value.ensures)
-    ∙ one-count a.s.now a.key.now _ p.0 _ p.1 (sym c.key_at.ensures ∙ c.if-not-key_at.false) n.ensures.1
-    (λ z. omega (arith, n.ensures.0, z)) (sym c.is_at.ensures ∙ c.if-not-is_at.false)
 
 pub returns : goal.returns
 returns c =
     let a = c.args in
     let p = c.requires in
-    let n = c.in-Some in
+    let n = c.in_ok-number in
     let fits : SFits w64 n.number.value = search rules in
-    ap (λ (r : Result ℕ Uncounted). with_next r (n.number.next + 1)) (rw (to_z-of_z fits) at c.in_ok-value.ensures)
+    ap (λ (r : Result ℕ Uncounted). Some (record { value = r; next = n.number.next + 1 }))
+    (rw (to_z-of_z fits) at c.in_count.ensures)
     ∙ one-count a.s.now a.key.now _ p.0 _ p.1 (sym c.key_at.ensures ∙ c.if-not-key_at.false) n.ensures.1
     (λ z. omega (arith, n.ensures.0, z)) (sym c.is_at.ensures ∙ c.if-not-is_at.false)
