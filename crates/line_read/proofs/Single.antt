@@ -132,13 +132,13 @@ verdict-line t a =
 -- ---- a count
 
 -- a count as a line's value; what is no count as a fault
-abbrev told : Fault → Option (At (Result ℕ Uncounted)) → Found (At ℕ)
+abbrev pub told : Fault → Option (At (Result ℕ Uncounted)) → Found (At ℕ)
 told out (Some c) = line_from (counted Fault.Spelling out c.value) c.next
 told out None = Err Fault.Spelling
 
 module _ (out : Fault) (key : List ℕ) (most : ℕ) (t : List ℕ) (a : ℕ) {x : Option (At (Result ℕ Uncounted))}
     (w : x ≡ counted_of most (number_of key t a) (line_end t a)) where
-  count-is : told out x ≡ line_from (said (count_line Fault.Spelling out key most) t a) (onward t a)
+  pub count-is : told out x ≡ line_from (said (count_line Fault.Spelling out key most) t a) (onward t a)
   unfolding line_at count_line counted counted_of count_of
   count-is = go (ltb (line_end t a) (length t)) (read_number (body_of key (line_of t a))) w
     where
